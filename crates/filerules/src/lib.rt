@@ -1,0 +1,3 @@
+// The rules that each record of a swap file obeys after the records before it.
+pub mod draft;
+mod fields;

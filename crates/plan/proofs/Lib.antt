@@ -1,0 +1,5 @@
+pub mod Exits
+pub mod Facts
+pub mod Holdings
+pub mod Sums
+pub mod Unique

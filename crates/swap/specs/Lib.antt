@@ -1,0 +1,7 @@
+pub mod Assets
+pub mod Faults
+pub mod Limits
+pub mod Routes
+pub mod Sets
+pub mod Swaps
+pub mod Views

@@ -1,0 +1,78 @@
+-- A swap as planned, seen as functions of a leg's and a holding's number, and the facts that the promises rest on.
+use Prim.Native.Nat.{ℕ, zero, suc, _+_, _≤_, _<_}
+use lib.Dec.{eqb}
+use mathlib.Core.Bool.{Bool, true, cond, _&&_}
+use mathlib.Core.List.{List, _∷_}
+use mathlib.Core.Path.{_≡_}
+use Rattle.swap.specs.Assets.{worth, holdsCoins, assetOn}
+use Rattle.swap.specs.Limits.{minParties, maxParties, maxLegs, maxHoldings, maxDelta, fileLedgers, coinCeiling}
+use Rattle.swap.specs.Routes.{mem, Reaches, Cycle, Span}
+
+pub record Swap : Type 0 where
+  pub number : ℕ
+  pub parties : ℕ
+  pub leader : ℕ → Bool
+  pub outsider : ℕ → Bool
+  pub delta : ℕ
+  pub span : ℕ
+  -- legs are numbered from 0
+  pub legs : ℕ
+  pub payer : ℕ → ℕ
+  pub receiver : ℕ → ℕ
+  pub ledger : ℕ → ℕ
+  pub asset : ℕ → ℕ
+  -- holdings likewise: who holds what, on which ledger
+  pub holdings : ℕ
+  pub holder : ℕ → ℕ
+  pub heldOn : ℕ → ℕ
+  pub held : ℕ → ℕ
+
+-- x pays a leg to y
+abbrev pub Pays : Swap → ℕ → ℕ → Type 0
+Pays s x y = (i : ℕ) × (i < s .legs) × (s .payer i ≡ x) × (s .receiver i ≡ y)
+
+-- f 0 + f 1 + ... , n of them
+abbrev pub sumBelow : ℕ → (ℕ → ℕ) → ℕ
+sumBelow zero f = 0
+sumBelow (suc n) f = sumBelow n f + f n
+
+-- what a party holds of a unit on a ledger before the swap
+abbrev pub start : Swap → ℕ → ℕ → ℕ → ℕ
+start s party ledger unit =
+    sumBelow (s .holdings) (λ k. cond (eqb (s .holder k) party && eqb (s .heldOn k) ledger) (worth ledger (s .held k) unit) 0)
+
+-- what a party's legs on a ledger are worth in a unit
+abbrev pub owed : Swap → ℕ → ℕ → ℕ → ℕ
+owed s party ledger unit =
+    sumBelow (s .legs) (λ i. cond (eqb (s .payer i) party && eqb (s .ledger i) ledger) (worth ledger (s .asset i) unit) 0)
+
+-- what all holdings on a ledger are worth in a unit
+abbrev pub total : Swap → ℕ → ℕ → ℕ
+total s ledger unit = sumBelow (s .holdings) (λ k. cond (eqb (s .heldOn k) ledger) (worth ledger (s .held k) unit) 0)
+
+-- the most that a ledger takes of a unit: every party's largest coin holding, or one title
+abbrev pub ceiling : ℕ → ℕ
+ceiling ledger = cond (holdsCoins ledger) coinCeiling 1
+
+-- What an accepted plan gives.
+pub record Sound (s : Swap) : Type 0 where
+  pub few : minParties ≤ s .parties
+  pub most : s .parties ≤ maxParties
+  pub legsMost : s .legs ≤ maxLegs
+  pub delay : (1 ≤ s .delta) × (s .delta ≤ maxDelta)
+  pub exist : (i : ℕ) → i < s .legs → (s .payer i < s .parties) × (s .receiver i < s .parties)
+  pub differ : (i : ℕ) → i < s .legs → s .payer i ≡ s .receiver i → ⊥
+  pub assets : (i : ℕ) → i < s .legs → (s .ledger i < fileLedgers) × (assetOn (s .ledger i) (s .asset i) ≡ true)
+  pub holders : (k : ℕ) → k < s .holdings → (s .holder k < s .parties) × (s .heldOn k < fileLedgers) × (assetOn (s .heldOn k) (s .held k) ≡ true)
+  -- any two parties are joined by a route
+  pub connected : (x y : ℕ) → x < s .parties → y < s .parties → Reaches (Pays s) x y
+  -- every cycle holds a leader
+  pub led : (x : ℕ) (r : List ℕ) → Cycle (Pays s) x r → (p : ℕ) × (mem p (x ∷ r) ≡ true) × (s .leader p ≡ true)
+  pub spanned : Span (Pays s) (s .parties) (s .span)
+  -- each party holds what its legs pay
+  pub covered : (p l u : ℕ) → owed s p l u ≤ start s p l u
+  -- leaders are parties, and there is one
+  pub leaders : (p : ℕ) → s .leader p ≡ true → p < s .parties
+  pub leads : (p : ℕ) × (s .leader p ≡ true)
+  -- no ledger is asked to take more of a unit than it can
+  pub fits : (l u : ℕ) → l < fileLedgers → total s l u ≤ ceiling l

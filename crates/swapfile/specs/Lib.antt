@@ -1,0 +1,4 @@
+pub mod Files
+pub mod Reads
+pub mod Ruled
+pub mod Theorems

@@ -1,0 +1,12 @@
+// What holds of every file, each stated by the contract of a function that does nothing.
+ghost use Rattle.swapfile.specs.Theorems.{OneAnswer, ReadsBack};
+
+// No bytes have two answers.
+pub fn one_answer()
+    ensures { λ _. ⌜ OneAnswer ⌝ }
+{}
+
+// The one answer to the encodings of a lawful file is what its records say.
+pub fn reads_back()
+    ensures { λ _. ⌜ ReadsBack ⌝ }
+{}
