@@ -1,0 +1,3 @@
+pub mod Decide
+pub mod Files
+pub mod Levels

@@ -1,0 +1,5 @@
+use Rattle.known.proofs.Files.{all-known}
+use Rattle.known.proofs.known_results.Needs as need
+
+pub returns : need.returns
+returns c = all-known
