@@ -65,7 +65,7 @@ module _ (legs : List Leg) (n : ℕ) where
     legs-inside : Inside n legs
     legs-inside i h =
         let a = and-parts (ltb (legAt legs i .payer) n) (ltb (legAt legs i .receiver) n)
-              (each-below (length legs) (λ i. ltb (legAt legs i .payer) n && ltb (legAt legs i .receiver) n) within i h) in
+        (each-below (length legs) (λ i. ltb (legAt legs i .payer) n && ltb (legAt legs i .receiver) n) within i h) in
         (ltb-true (legAt legs i .payer) n (a .0), ltb-true (legAt legs i .receiver) n (a .1))
 
     -- a joined route of parties that pay or are paid is one of parties below n
@@ -99,7 +99,7 @@ module _ (legs : List Leg) (n : ℕ) where
           let h = first x r c in
           led-on leaders (x ∷ r)
           (⊎-elim (λ e. absurd (both-ways (pays legs (last x r) x) (not-true _ e) (pays-found legs (last x r) x (c .1)))) (λ e. e)
-            (or-cases (not (pays legs (last x r) x)) (ledBy leaders (x ∷ r)) (of-all (ledCycle legs leaders) t x r h (c .0))))
+          (or-cases (not (pays legs (last x r) x)) (ledBy leaders (x ∷ r)) (of-all (ledCycle legs leaders) t x r h (c .0))))
         where
           first : (x : ℕ) (r : List ℕ) → Cycle (Pays legs) x r → x < n
           first x r c = subst (λ q. q < n) (c .1 .3) (legs-inside (c .1 .0) (c .1 .1) .1)
@@ -118,11 +118,11 @@ module _ (legs : List Leg) (n : ℕ) where
               record {
                 by = r;
                 route = subst (λ z. Joined (Pays legs) (z ∷ r)) q j;
-                ends = subst (λ z. last z r ≡ y) q (eqb-true (last z r) y (a .1))
+                ends = subst (λ z. last z r ≡ y) q (eqb-true (last z r) y (a .1));
               }
 
 pub covered-by : (holdings : List Holding) (legs : List Leg) → allBelow (length legs) (covered holdings legs) ≡ true →
-  (i : ℕ) → i < length legs → covered holdings legs i ≡ true
+    (i : ℕ) → i < length legs → covered holdings legs i ≡ true
 covered-by holdings legs t = each-below (length legs) (covered holdings legs) t
 
 -- the whole test, for a plan whose routes end with level k and whose span is w
@@ -150,5 +150,5 @@ accepted terms holdings legs k w t =
       covered = covered-by holdings legs (t1 .0);
       connected = connects legs n (t2 .0) k (t3 .0) (t4 .0);
       led = leads legs n (t2 .0) k (t3 .0) (terms .leaders .bits) (t5 .0);
-      spanned = spans legs n (t2 .0) k (t3 .0) w (leb-true 1 w (t7 .1)) (t6 .0) (t7 .0)
+      spanned = spans legs n (t2 .0) k (t3 .0) w (leb-true 1 w (t7 .1)) (t6 .0) (t7 .0);
     }

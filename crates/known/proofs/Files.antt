@@ -75,7 +75,7 @@ lawful-sound s (r ∷ rs) e =
 
 -- what lawful records with terms and legs say is the file's answer
 answered : (rs : List Statement) (bytes : List ℕ) (c : Content) → bytes ≡ joined encode rs → (leb 1 (length bytes) && leb (length bytes) maxFile) ≡ true →
-  lawful start rs ≡ true → whole (after start rs) ≡ Some c → Answer bytes (Ok c)
+    lawful start rs ≡ true → whole (after start rs) ≡ Some c → Answer bytes (Ok c)
 answered rs bytes c e z l w =
     let a = and-parts (leb 1 (length bytes)) (leb (length bytes) maxFile) z in
     record {
@@ -83,12 +83,12 @@ answered rs bytes c e z l w =
       sized = (leb-true 1 (length bytes) (a .0), leb-true (length bytes) maxFile (a .1));
       encoded = e;
       lawful = lawful-sound start rs l;
-      says = w
+      says = w;
     }
 
 -- and if its plan passes the test, it is accepted
 gives : (bytes : List ℕ) (c : Content) (k w : ℕ) → Answer bytes (Ok c) → accepts (c .terms) (c .holdings) (c .legs) k w ≡ true →
-  Gives bytes (results.accepted (c .number) w ((2 * w + 1) * c .terms .delta))
+    Gives bytes (results.accepted (c .number) w ((2 * w + 1) * c .terms .delta))
 gives bytes c k w a t = (swapIn c w, (c, w, a, accepted (c .terms) (c .holdings) (c .legs) k w t, refl), refl, refl, refl)
 
 -- what the records say, where they say it
@@ -119,22 +119,23 @@ headed-given =
 cut-given : Gives (take 34 two) (results.refused 4 27)
 cut-given =
     let rs : List Statement = take 4 two-records in
-    let rest : List ℕ = 0x04 ∷ 0x01 ∷ 0x00 ∷ 0x04 ∷ 0x00 ∷ 0x00 ∷ 0x00 ∷ [] in
-    (fault CutShort 27,
-    inl (inr (record {
-      records = rs;
-      rest = rest;
-      sized = (leb-true 1 34 refl, leb-true 34 maxFile refl);
-      encoded = refl;
-      lawful = lawful-sound start rs refl;
-      place = refl;
-      stuck = unread 4 (0x01 ∷ 0x00 ∷ 0x04 ∷ 0x00 ∷ 0x00 ∷ 0x00 ∷ []) refl (short 7 refl (ltb-true 6 7 refl) refl)
-    })),
-    refl,
-    refl)
+    let rest : List ℕ = 0x04 ∷ 0x01 ∷ 0x00 ∷ 0x04 ∷ 0x00 ∷ 0x00 ∷ 0x00 ∷ [] in (
+      fault CutShort 27,
+      inl (inr (record {
+        records = rs;
+        rest = rest;
+        sized = (leb-true 1 34 refl, leb-true 34 maxFile refl);
+        encoded = refl;
+        lawful = lawful-sound start rs refl;
+        place = refl;
+        stuck = unread 4 (0x01 ∷ 0x00 ∷ 0x04 ∷ 0x00 ∷ 0x00 ∷ 0x00 ∷ []) refl (short 7 refl (ltb-true 6 7 refl) refl);
+      })),
+      refl,
+      refl,
+    )
 
 given : (rs : List Statement) → (leb 1 (length (joined encode rs)) && leb (length (joined encode rs)) maxFile) ≡ true → lawful start rs ≡ true →
-  whole (after start rs) ≡ Some (said rs) → Answer (joined encode rs) (Ok (said rs))
+    whole (after start rs) ≡ Some (said rs) → Answer (joined encode rs) (Ok (said rs))
 given rs z l w = answered rs (joined encode rs) (said rs) refl z l w
 
 ring-given : Gives (joined encode ring) (results.accepted 0 3 28)
@@ -146,50 +147,58 @@ star-given = gives (joined encode (star 1)) (said (star 1)) 3 3 (given (star 1) 
 -- the route 0, 3 is a cycle without leader 1 or 2
 star-refused : Gives (joined encode (star 6)) (results.refused 12 0)
 star-refused =
-    let c = said (star 6) in
-    (fault NoLeader 0,
-    inr (c, given (star 6) refl refl refl,
-      unled 0
-      (covered-by (c .holdings) (c .legs) refl)
-      (connects (c .legs) 4 refl 3 refl refl)
-      (record {
-        exists = ltb-true 0 4 refl;
-        cycle = record {
-          from = 0;
-          by = 3 ∷ [];
-          cycle = (((4, ltb-true 4 6 refl, refl, refl), refl, tt), (5, ltb-true 5 6 refl, refl, refl));
-          on = refl;
-          none = (refl, (refl, tt))
-        };
-        lowest = λ q h. absurd (omega arith)
-      })),
-    refl,
-    refl)
+    let c = said (star 6) in (
+      fault NoLeader 0,
+      inr (
+        c,
+        given (star 6) refl refl refl,
+        unled 0
+            (covered-by (c .holdings) (c .legs) refl)
+            (connects (c .legs) 4 refl 3 refl refl)
+            (record {
+              exists = ltb-true 0 4 refl;
+              cycle = record {
+                from = 0;
+                by = 3 ∷ [];
+                cycle = (((4, ltb-true 4 6 refl, refl, refl), refl, tt), (5, ltb-true 5 6 refl, refl, refl));
+                on = refl;
+                none = (refl, (refl, tt));
+              };
+              lowest = λ q h. absurd (omega arith);
+            }),
+      ),
+      refl,
+      refl,
+    )
 
 -- no joined route begins with 1 and ends with 0
 chain-refused : Gives (joined encode chain) (results.refused 11 1)
 chain-refused =
-    let c = said chain in
-    (fault NotConnected 1,
-    inr (c, given chain refl refl refl,
-      cutOff 1
-      (covered-by (c .holdings) (c .legs) refl)
-      (record {
-        exists = ltb-true 1 3 refl;
-        apart = inr apart;
-        lowest = λ q h.
-          let e : 0 ≡ q = omega arith in
-          subst (λ q. Reaches (Pays (c .legs)) 0 q × Reaches (Pays (c .legs)) q 0) e
-          (record { by = []; route = tt; ends = refl }, record { by = []; route = tt; ends = refl })
-      })),
-    refl,
-    refl)
+    let c = said chain in (
+      fault NotConnected 1,
+      inr (
+        c,
+        given chain refl refl refl,
+        cutOff 1
+            (covered-by (c .holdings) (c .legs) refl)
+            (record {
+              exists = ltb-true 1 3 refl;
+              apart = inr apart;
+              lowest = λ q h.
+                  let e : 0 ≡ q = omega arith in
+                  subst (λ q. Reaches (Pays (c .legs)) 0 q × Reaches (Pays (c .legs)) q 0) e
+                  (record { by = []; route = tt; ends = refl }, record { by = []; route = tt; ends = refl });
+            }),
+      ),
+      refl,
+      refl,
+    )
   where
     apart : Reaches (Pays (said chain .legs)) 1 0 → ⊥
     apart r =
         both-ways (eqb (last 1 (r .by)) 0)
         (not-true (eqb (last 1 (r .by)) 0)
-          (of-all (said chain .legs) 3 refl 3 refl (λ r. not (joins 1 0 r)) refl 1 (r .by) (ltb-true 1 3 refl) (r .route)))
+        (of-all (said chain .legs) 3 refl 3 refl (λ r. not (joins 1 0 r)) refl 1 (r .by) (ltb-true 1 3 refl) (r .route)))
         (eq-eqb (last 1 (r .by)) 0 (r .ends))
 
 pub all-known : Known

@@ -113,12 +113,12 @@ in-longer legs zero x y r h e = absurd (omega arith)
 in-longer legs (suc n) x y r h e =
     ⊎-elim
     (λ q. subst (λ z. In (x ∷ y ∷ r) (cond (pays legs z y && not (mem z (y ∷ r))) ((z ∷ y ∷ r) ∷ longer legs n (y ∷ r)) (longer legs n (y ∷ r)))) q
-      (subst (λ b. In (x ∷ y ∷ r) (cond b ((x ∷ y ∷ r) ∷ longer legs n (y ∷ r)) (longer legs n (y ∷ r)))) (sym e) here))
+    (subst (λ b. In (x ∷ y ∷ r) (cond b ((x ∷ y ∷ r) ∷ longer legs n (y ∷ r)) (longer legs n (y ∷ r)))) (sym e) here))
     (λ ne. in-cond _ _ _ (in-longer legs n x y r (omega (arith, ne)) e))
     (cases-eq x n)
 
 in-all : (legs : List Leg) (n x y : ℕ) (r : List ℕ) (rs : List (List ℕ)) → x < n → (pays legs x y && not (mem x (y ∷ r))) ≡ true →
-  In (y ∷ r) rs → In (x ∷ y ∷ r) (all-longer legs n rs)
+    In (y ∷ r) rs → In (x ∷ y ∷ r) (all-longer legs n rs)
 in-all legs n x y r [] h e i = elim i [ ]
 in-all legs n x y r (q ∷ rs) h e here = in-left (all-longer legs n rs) (in-longer legs n x y r h e)
 in-all legs n x y r (q ∷ rs) h e (later i) = in-right (longer legs n q) (in-all legs n x y r rs h e i)
@@ -158,7 +158,7 @@ passes-at legs n (suc k) m p e h =
 
 -- a test that all levels pass, up to an empty one, holds of every joined route of parties below n
 pub every-route :
-  (legs : List Leg) (n k : ℕ) (p : List ℕ → Bool) → none (level legs n k) ≡ true → passes legs n k p ≡ true →
+    (legs : List Leg) (n k : ℕ) (p : List ℕ → Bool) → none (level legs n k) ≡ true → passes legs n k p ≡ true →
     (r : List ℕ) → Joined (Pays legs) r → All (λ x. x < n) r → p r ≡ true
 every-route legs n k p e t [] j a = absurd j
 every-route legs n k p e t (x ∷ r) j a =

@@ -4,5 +4,4 @@ ghost use Rattle.known.specs.Results.{Known};
 // Every known result comes out as told.
 pub fn known_results()
     ensures { λ _. ⌜ Known ⌝ }
-{
-}
+{}

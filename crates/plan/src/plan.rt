@@ -114,9 +114,8 @@ impl Plan {
     pub fn last_tick(&self) -> u32
         ensures { λ r. ⌜ r ≡ lastTick (planned (now (self .entry))) ⌝ }
     {
-        let span = self.span;
-        let delta = self.terms.delta;
-        (2 * span as u32 + 1) * delta as u32
+        let Plan { span, terms, .. } = self;
+        (2 * *span as u32 + 1) * terms.delta as u32
     }
 }
 

@@ -1,5 +1,5 @@
 -- What the reader answers.
-use Prim.Native.Nat.{ℕ, _+_, _<_}
+use Prim.Native.Nat.{ℕ, _<_}
 use denote.Ref.{RefT}
 use lib.ListN.{length, drop}
 use mathlib.Core.List.{List, [], _∷_, _++_}

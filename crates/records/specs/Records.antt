@@ -1,6 +1,6 @@
 -- The bytes of a swap file's records. A record is a kind byte and a body whose length its kind fixes.
 use Prim.Native.Nat.{ℕ, _/_, _%_, _^_, _<_}
-use denote.Ref.{RefT, now}
+use denote.Ref.{now}
 use lib.Dec.{eqb}
 use lib.ListN.{length}
 use mathlib.Core.Bool.{cond}

@@ -1,4 +1,6 @@
+pub mod Headings
 pub mod Looks
 pub mod Rules
 pub mod Steps
+pub mod Total
 pub mod Unique

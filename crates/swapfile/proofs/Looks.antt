@@ -4,12 +4,12 @@ use lib.Dec.{eqb}
 use lib.ListN.{length}
 use mathlib.Core.Bool.{Bool, true, false, cond}
 use mathlib.Core.List.{List, [], _∷_, _++_}
-use mathlib.Core.Path.{_≡_, refl, sym, ap, subst, _∙_}
+use mathlib.Core.Path.{_≡_, refl, sym, ap, _∙_}
 use native.Mathlib.Omega.{arith}
 use Rattle.filerules.specs.Said.{Said, faultOf}
 use Rattle.records.proofs.Bytes.{number-of}
 use Rattle.records.specs.Reading.{Unread, unknown, short}
-use Rattle.records.specs.Records.{kindOf, bodyOf, encode, bodySize, Fits}
+use Rattle.records.specs.Records.{kindOf, bodyOf, encode, Fits}
 use Rattle.records.specs.declared.record.Statement.{Statement}
 use Rattle.records.specs.declared.record.Statement.the-variants as states
 use Rattle.std.specs.declared.option.Option.{Option}

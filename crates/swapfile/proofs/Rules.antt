@@ -1,5 +1,5 @@
 -- Lawful records say what is ruled.
-use Prim.Native.Nat.{ℕ, zero, suc, _+_, _/_, _%_, _^_, _≤_, _<_}
+use Prim.Native.Nat.{ℕ, zero, suc, _%_, _≤_, _<_}
 use lib.Dec.{eqb, leb, ltb}
 use lib.ListN.{length, getD}
 use mathlib.Core.Bool.{Bool, true, false, cond, not, _&&_, _||_}
@@ -18,17 +18,22 @@ use Rattle.std.proofs.shelf.Tests.{and-parts, or-parts, not-true, not-false, lt
 use Rattle.std.specs.Options.{isSome, valueOr}
 use Rattle.std.specs.declared.option.Option.{Option}
 use Rattle.std.specs.declared.option.Option.the-variants.{Some, None}
+use Rattle.std.specs.Vec.{made}
+use Rattle.std.specs.declared.result.Result.{Result}
+use Rattle.std.specs.declared.result.Result.the-variants.{Ok, Err}
 use Rattle.std.specs.shelf.Lists.{All}
 use Rattle.swap.proofs.Bits as bits
-use Rattle.swap.specs.Assets.{assetOn, holdsCoins}
-use Rattle.swap.specs.Limits.{maxHoldings, maxLegs, fileLedgers}
+use Rattle.swap.specs.Assets.{holdsCoins}
+use Rattle.swap.specs.Limits.{maxHoldings, maxLegs}
 use Rattle.swap.specs.Sets.{member}
-use Rattle.swap.specs.declared.faults.Reason.{Reason}
 use Rattle.swap.specs.declared.faults.Reason.the-variants.{OutOfOrder, BadField, TooMany, HeldTwice}
 use Rattle.swap.specs.declared.records.Holding.{Holding}
 use Rattle.swap.specs.declared.records.Leg.{Leg}
 use Rattle.swap.specs.declared.records.Terms.{Terms}
-use Rattle.swapfile.specs.Files.{Content, complete, whole, after, Lawful, Accepted}
+use Rattle.swapfile.specs.Files.{Content, complete, after, Lawful, Accepted}
+use Rattle.swapfile.specs.Reads.{contentOf, Reading}
+use Rattle.swapfile.specs.declared.file.SwapFile.{SwapFile}
+use Rattle.swapfile.specs.declared.refusal.Refusal.{Refusal}
 use Rattle.swapfile.specs.Ruled.{RuledTerms, RuledHolding, RuledLeg, Apart, Ruled}
 
 -- a record that breaks no rule fails each test
@@ -215,3 +220,13 @@ pub ruled : (bytes : List ℕ) (c : Content) → Accepted bytes c → Ruled c
 ruled bytes c h =
     let s = after start (h .records) in
     ruled-by (s .number) (s .terms) (s .holdings) (s .legs) c (h .says) (kept start (h .records) (h .lawful) (refl, refl))
+
+-- so what `read` answers is too
+ruled-read : (bytes : List ℕ) (r : Result SwapFile Refusal) → Reading bytes r → made r (λ f. Ruled (contentOf f))
+ruled-read bytes (Ok f) h = ruled bytes (contentOf f) h
+ruled-read bytes (Err f) h = tt
+
+pub both :
+    (bytes : List ℕ) (r : Result SwapFile Refusal) → Reading bytes r
+    → record { answer : Reading bytes r; ruled : made r (λ f. Ruled (contentOf f)) }
+both bytes r h = record { answer = h; ruled = ruled-read bytes r h }

@@ -1,10 +1,10 @@
 -- Reading record by record.
-use Prim.Native.Nat.{ℕ, _+_, _-_, _≤_, _<_}
-use lib.Dec.{eqb}
+use Prim.Native.Nat.{ℕ, _-_, _≤_, _<_}
+use lib.Dec.{eqb, ltb}
 use lib.ListN.{length, drop}
-use mathlib.Core.Bool.{false}
+use mathlib.Core.Bool.{false, _||_}
 use mathlib.Core.List.{List, [], _∷_, _++_, append-assoc}
-use mathlib.Core.Logic.{inl, inr}
+use mathlib.Core.Logic.{inr}
 use mathlib.Core.Path.{_≡_, refl, sym, ap, subst, _∙_}
 use native.Mathlib.Omega.{arith}
 use Rattle.filerules.specs.Said.{Said, start, put, faultOf}
@@ -13,7 +13,7 @@ use Rattle.records.specs.Records.{encode, Fits, recordKind, recordBody, States}
 use Rattle.records.specs.declared.record.Record.{Record}
 use Rattle.records.specs.declared.record.Statement.{Statement}
 use Rattle.std.proofs.shelf.Lists.{append-nil, joined-more, length-append, length-drop}
-use Rattle.std.proofs.shelf.Tests.{eqb-false}
+use Rattle.std.proofs.shelf.Tests.{eqb-false, ltb-false, or-parts}
 use Rattle.std.specs.declared.option.Option.{Option}
 use Rattle.std.specs.declared.option.Option.the-variants.{Some, None}
 use Rattle.std.specs.declared.result.Result.{Result}
@@ -25,7 +25,7 @@ use Rattle.swapfile.specs.declared.file.SwapFile.{SwapFile}
 use Rattle.swapfile.specs.declared.refusal.Refusal.{Refusal}
 use Rattle.swapfile.specs.declared.refusal.Refusal.the-variants as refusal
 use Rattle.swapfile.specs.Reads.{Taken, Reading}
-use Rattle.swapfile.specs.Files.{after, Lawful, Content, whole, Sized, Stuck, unread, broken, ended, Accepted, Refused, Answer}
+use Rattle.swapfile.specs.Files.{after, Lawful, Content, whole, Sized, Stuck, broken, Accepted, Refused}
 
 -- what is known on the way: the bytes up to a place are those of lawful records, which say s
 pub record So-far (bytes source : List ℕ) (place : ℕ) (s : Said) : Type 0 where
@@ -35,14 +35,21 @@ pub record So-far (bytes source : List ℕ) (place : ℕ) (s : Said) : Type 0 wh
   pub lawful : Lawful start records
   pub says : after start records ≡ s
 
-pub sized : (bytes : List ℕ) → false ≡ eqb (length bytes) 0 → length bytes ≤ maxFile → Sized bytes
-sized bytes e h = let ne = eqb-false (length bytes) 0 (sym e) in (omega (arith, ne), h)
+pub sized : (bytes : List ℕ) → false ≡ (eqb (length bytes) 0 || ltb maxFile (length bytes)) → Sized bytes
+sized bytes e =
+    let p = or-parts (eqb (length bytes) 0) (ltb maxFile (length bytes)) (sym e) in
+    let ne = eqb-false (length bytes) 0 (p .0) in
+    (omega (arith, ne), ltb-false maxFile (length bytes) (p .1))
 
 -- what `next` found
 pub found-some :
     (source : List ℕ) (at at′ : ℕ) (o : Option (ℕ × Record)) (p : ℕ × Record) → o ≡ Some p → Next source at at′ (Ok o)
     → Next source at at′ (Ok (Some p))
 found-some source at at′ o p e h = subst (λ x. Next source at at′ (Ok x)) e h
+
+pub found-none :
+    (source : List ℕ) (at at′ : ℕ) (o : Option (ℕ × Record)) → o ≡ None → Next source at at′ (Ok o) → Next source at at′ (Ok None)
+found-none source at at′ o e h = subst (λ x. Next source at at′ (Ok x)) e h
 
 -- a refusal passed on by `?`
 pub passed :

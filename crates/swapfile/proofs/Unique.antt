@@ -2,7 +2,7 @@
 use Prim.Native.Nat.{ℕ}
 use lib.ListN.{length}
 use mathlib.Core.List.{List, [], _∷_, _++_, append-assoc}
-use mathlib.Core.Logic.{inl, inr, _⊎_}
+use mathlib.Core.Logic.{inl, inr}
 use mathlib.Core.Path.{_≡_, refl, sym, ap, subst, _∙_}
 use Rattle.filerules.specs.Said.{Said, start, put}
 use Rattle.records.specs.Records.{encode}
@@ -14,7 +14,7 @@ use Rattle.std.specs.shelf.Lists.{joined}
 use Rattle.swap.specs.declared.faults.Fault.{Fault}
 use Rattle.swap.specs.declared.faults.Reason.the-variants.{Missing}
 use Rattle.swapfile.proofs.Looks.{Look, done, stop, goes, look, at-end, goes-on, stops-at}
-use Rattle.swapfile.specs.Files.{Content, after, Lawful, Accepted, Refused, Unsized, Answer}
+use Rattle.swapfile.specs.Files.{Content, after, Lawful, Accepted, Refused}
 use Rattle.swapfile.specs.Theorems.{OneAnswer, ReadsBack}
 
 abbrev Halts : Look → Type 0

@@ -1,7 +1,12 @@
+ghost use lib.Dec.{eqb, ltb};
+ghost use mathlib.Core.Bool.{_||_};
 ghost use mathlib.Core.Path.{_≡_};
 ghost use Rattle.filerules.specs.Said.{said};
 ghost use Rattle.records.specs.Records.{Formed};
-ghost use Rattle.swapfile.specs.Reads.{Taken, Finished, Reading};
+ghost use Rattle.std.specs.Vec.{made};
+ghost use Rattle.swap.specs.Limits.{maxFile};
+ghost use Rattle.swapfile.specs.Reads.{contentOf, Taken, Finished, Reading};
+ghost use Rattle.swapfile.specs.Ruled.{Ruled};
 use crate::refusal::Refusal;
 use crate::refusal::RefusalFromAlloc;
 use crate::refusal::RefusalFromFault;
@@ -23,6 +28,13 @@ pub struct SwapFile {
     pub terms: Terms,
     pub holdings: Vec<Holding>,
     pub legs: Vec<Leg>,
+}
+
+// Is a file of that length empty or too long?
+fn is_unsized(len: usize) -> bool
+    ensures { λ r. ⌜ r ≡ (eqb len 0 || ltb maxFile len) ⌝ }
+{
+    len == 0 || len > MAX_FILE
 }
 
 // Takes the record at `at` into the draft, or says which rule it breaks and leaves the draft as it is.
@@ -68,8 +80,9 @@ fn finish(draft: Draft, end: usize) -> Result<SwapFile, Fault>
 // Reads any bytes as a swap file.
 pub fn read(heap: Global, bytes: &[u8]) -> Result<SwapFile, Refusal>
     ensures answer { λ r. ⌜ Reading (now (bytes .entry)) r ⌝ }
+    ensures ruled { λ r. ⌜ made r (λ f. Ruled (contentOf f)) ⌝ }
 {
-    if bytes.is_empty() || bytes.len() > MAX_FILE {
+    if is_unsized(bytes.len()) {
         return Err(Refusal::Fault(Fault {
             reason: Reason::FileSize,
             place: 0,
@@ -81,4 +94,136 @@ pub fn read(heap: Global, bytes: &[u8]) -> Result<SwapFile, Refusal>
         take_in(&mut draft, at, record)?;
     }
     Ok(finish(draft, bytes.len())?)
+}
+
+#[cfg(test)]
+mod tests {
+    use super::*;
+    use crate::refusal::RefusalDebug;
+    use std::test::*;
+    use swap::records::HoldingPartialEq;
+    use swap::records::LegPartialEq;
+    use swap::records::TermsPartialEq;
+
+    // terms, two holdings, two legs
+    const PLAIN: [u8; 35] = [
+        2,
+        2,
+        1,
+        0,
+        1,
+        3,
+        0,
+        0,
+        0,
+        0,
+        0,
+        5,
+        3,
+        4,
+        1,
+        0,
+        0,
+        0,
+        7,
+        4,
+        0,
+        1,
+        0,
+        0,
+        0,
+        0,
+        5,
+        4,
+        1,
+        0,
+        4,
+        0,
+        0,
+        0,
+        7,
+    ];
+
+    const HEADED: [u8; 40] = [
+        1,
+        0,
+        0,
+        0,
+        42,
+        2,
+        2,
+        1,
+        0,
+        1,
+        3,
+        0,
+        0,
+        0,
+        0,
+        0,
+        5,
+        3,
+        4,
+        1,
+        0,
+        0,
+        0,
+        7,
+        4,
+        0,
+        1,
+        0,
+        0,
+        0,
+        0,
+        5,
+        4,
+        1,
+        0,
+        4,
+        0,
+        0,
+        0,
+        7,
+    ];
+
+    #[test]
+    fn two_parties(rt: LibcRuntime) -> Result<(), Fail> {
+        let file = read(rt.alloc(), &PLAIN)?;
+        check(file.number == 0 && file.terms.parties == 2 && file.terms.delta == 1)?;
+        check(file.holdings.len() == 2 && file.legs.len() == 2)?;
+        check(
+            file.holdings[1]
+                == Holding {
+                    ledger: 4,
+                    party: 1,
+                    asset: 7,
+                },
+        )?;
+        check(
+            file.legs[0]
+                == Leg {
+                    payer: 0,
+                    receiver: 1,
+                    ledger: 0,
+                    asset: 5,
+                },
+        )
+    }
+
+    #[test]
+    fn only_the_number_changes(rt: LibcRuntime) -> Result<(), Fail> {
+        let plain = read(rt.alloc(), &PLAIN)?;
+        let headed = read(rt.alloc(), &HEADED)?;
+        check(headed.number == 42 && headed.terms == plain.terms)?;
+        check(headed.holdings == plain.holdings && headed.legs == plain.legs)
+    }
+
+    #[test]
+    fn cut_short(rt: LibcRuntime) -> Result<(), Fail> {
+        match read(rt.alloc(), &PLAIN[0..34]) {
+            Err(Refusal::Fault(fault)) => check(fault.number() == 4 && fault.place == 27),
+            _ => Err(Fail::new("accepted")),
+        }
+    }
 }

@@ -33,6 +33,6 @@ pub impl<T: Drop> From<Refused<T>> for Refusal as RefusalFromRefused {
     ghost converts = { λ _ r. r ≡ Memory };
 
     fn from(_refused: Refused<T>) -> Refusal {
-        Refusal::Memory
+        Self::Memory
     }
 }

@@ -1,6 +1,5 @@
 use Prim.Native.Nat.{_-_}
 use lib.ListN.{length}
-use mathlib.Core.Path.{_≡_}
 use Rattle.filerules.specs.Said.{said}
 use Rattle.records.specs.Reading.{source, place}
 use Rattle.swapfile.proofs.Steps.{So-far}

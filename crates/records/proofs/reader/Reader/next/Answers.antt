@@ -1,5 +1,3 @@
-use Prim.Native.Nat.{_-_, _≤_, _<_}
-use lib.ListN.{length, take, drop}
 use mathlib.Core.Path.{refl}
 use borrow.Author.Tests.{ltb-true, ltb-false}
 use native.Mathlib.Omega.{arith}

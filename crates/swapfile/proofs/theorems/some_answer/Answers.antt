@@ -1,0 +1,5 @@
+use Rattle.swapfile.proofs.Total.{some-answer}
+use Rattle.swapfile.proofs.theorems.some_answer.Needs as need
+
+pub returns : need.returns
+returns c = some-answer
