@@ -1,0 +1,3 @@
+pub mod LawsHold
+pub mod Rows
+pub mod Sums

@@ -1,0 +1,6 @@
+// Why a mempool refuses a transaction. `Full` is told first where both hold.
+#[derive(Clone, Copy, PartialEq, Eq, Debug)]
+pub enum Refusal {
+    Full,
+    Duplicate,
+}
