@@ -4,7 +4,6 @@ use lib.ListN.{take}
 use mathlib.Core.List.{List, [], _∷_, _++_}
 use mathlib.Core.Path.{_≡_}
 use Rattle.plan.specs.Meaning.{Means}
-use Rattle.plan.specs.Plans.{lastTick}
 use Rattle.records.specs.Records.{encode}
 use Rattle.records.specs.declared.record.Statement.{Statement}
 use Rattle.records.specs.declared.record.Statement.the-variants as states
@@ -12,6 +11,7 @@ use Rattle.std.specs.declared.result.Result.the-variants.{Ok, Err}
 use Rattle.std.specs.shelf.Lists.{joined, All}
 use Rattle.swap.specs.Faults.{numberOf}
 use Rattle.swap.specs.Swaps.{Swap}
+use Rattle.swap.specs.Ticks.{lastTick}
 use Rattle.swap.specs.declared.faults.Fault.{Fault}
 
 -- A file is accepted, with its number, span and last tick, or refused with a number and a place.

@@ -1,5 +1,5 @@
 -- A plan, and what reading one answers.
-use Prim.Native.Nat.{ℕ, _+_, _*_}
+use Prim.Native.Nat.{ℕ}
 use mathlib.Core.List.{List}
 use Rattle.plan.specs.Check.{Checked}
 use Rattle.plan.specs.Meaning.{TheAnswer}
@@ -14,10 +14,6 @@ use Rattle.swapfile.specs.declared.refusal.Refusal.the-variants as refusal
 
 abbrev pub planned : Plan → Swap
 planned p = swapOf (p .number) (p .terms) (vec-items (p .holdings)) (vec-items (p .legs)) (p .span)
-
--- the last tick of a swap: (2·W + 1)·delta
-abbrev pub lastTick : Swap → ℕ
-lastTick s = (2 * s .span + 1) * s .delta
 
 -- The plan, whose facts the promises rest on; or the refusal; or memory is wanting, and nothing is said.
 abbrev pub Reads : List ℕ → Result Plan Refusal → Type 0

@@ -4,4 +4,5 @@ pub mod Limits
 pub mod Routes
 pub mod Sets
 pub mod Swaps
+pub mod Ticks
 pub mod Views

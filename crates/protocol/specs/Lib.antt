@@ -1,0 +1,12 @@
+pub mod Agree
+pub mod Tables
+pub mod Pool
+pub mod Stocks
+pub mod State
+pub mod Verdicts
+pub mod Parties
+pub mod Steps
+pub mod Calls
+pub mod Promises
+pub mod Law
+pub mod Examples
