@@ -11,7 +11,7 @@ use Rattle.filerules.specs.Said.{Said, start, put, faultOf}
 use Rattle.graph.specs.Graphs.{Pays, Connected, Leaderless, Unled, CutOff}
 use Rattle.known.proofs.Decide.{allBelow, accepts, accepted, covered-by, connects, inside, of-all, joins}
 use Rattle.known.proofs.Levels.{level, none, met, passes}
-use Rattle.known.specs.Results.{Outcome, Gives, two, heading42, ring, star, chain, known, Known}
+use Rattle.known.specs.Results.{Outcome, Gives, two, heading42, ring, star, chain}
 use Rattle.known.specs.Results as results
 use Rattle.plan.specs.Check.{fault, unled, cutOff}
 use Rattle.plan.specs.Meaning.{Means, swapIn}
@@ -30,7 +30,7 @@ use Rattle.swap.specs.declared.faults.Reason.the-variants.{CutShort, NoLeader, 
 use Rattle.swapfile.specs.Files.{Content, whole, after, Lawful, Sized, Answer, unread}
 
 -- each field fits its bytes, as a test
-abbrev fits : Statement → Bool
+abbrev pub fits : Statement → Bool
 fits (states.Heading n) = ltb n (2 ^ 32)
 fits (states.Terms t) = ltb (t .parties) 256 && (ltb (t .leaders .bits) 256 && (ltb (t .outsiders .bits) 256 && ltb (t .delta) 256))
 fits (states.Holding h) = ltb (h .ledger) 256 && (ltb (h .party) 256 && ltb (h .asset) (2 ^ 32))
@@ -53,7 +53,7 @@ fits-sound (states.Leg l) e =
     let c = and-parts (ltb (l .ledger) 256) _ (b .1) in
     (ltb-true (l .payer) 256 (a .0), ltb-true (l .receiver) 256 (b .0), ltb-true (l .ledger) 256 (c .0), ltb-true (l .asset) (2 ^ 32) (c .1))
 
-abbrev isNone : {X : Type 0} → Option X → Bool
+abbrev pub isNone : {X : Type 0} → Option X → Bool
 isNone None = true
 isNone (Some x) = false
 
@@ -62,7 +62,7 @@ none-sound None e = refl
 none-sound (Some x) e = absurd (both-ways false refl e)
 
 -- the records obey the rules, as a test
-abbrev lawful : Said → List Statement → Bool
+abbrev pub lawful : Said → List Statement → Bool
 lawful s [] = true
 lawful s (r ∷ rs) = fits r && (isNone (faultOf s r) && lawful (put s r) rs)
 
@@ -86,37 +86,42 @@ answered rs bytes c e z l w =
       says = w;
     }
 
--- and if its plan passes the test, it is accepted
-gives : (bytes : List ℕ) (c : Content) (k w : ℕ) → Answer bytes (Ok c) → accepts (c .terms) (c .holdings) (c .legs) k w ≡ true →
-    Gives bytes (results.accepted (c .number) w ((2 * w + 1) * c .terms .delta))
-gives bytes c k w a t = (swapIn c w, (c, w, a, accepted (c .terms) (c .holdings) (c .legs) k w t, refl), refl, refl, refl)
+-- and if its plan passes the test, the file means its swap
+means : (bytes : List ℕ) (c : Content) (k w : ℕ) → Answer bytes (Ok c) → accepts (c .terms) (c .holdings) (c .legs) k w ≡ true → Means bytes (Ok (swapIn c w))
+means bytes c k w a t = (c, w, a, accepted (c .terms) (c .holdings) (c .legs) k w t, refl)
+
+gives : (bytes : List ℕ) (c : Content) (w : ℕ) → Means bytes (Ok (swapIn c w)) → Gives bytes (results.accepted (c .number) w ((2 * w + 1) * c .terms .delta))
+gives bytes c w m = (swapIn c w, m, refl, refl, refl)
 
 -- what the records say, where they say it
-abbrev content : Option Content → Content
+abbrev pub content : Option Content → Content
 content None = record { number = 0; terms = record { parties = 0; leaders = record { bits = 0 }; outsiders = record { bits = 0 }; delta = 0 }; holdings = []; legs = [] }
 content (Some c) = c
 
-abbrev said : List Statement → Content
+abbrev pub said : List Statement → Content
 said rs = content (whole (after start rs))
 
-abbrev two-records : List Statement
+abbrev pub two-records : List Statement
 two-records =
-    results.terms 2 1 1
+    results.terms 2 1 0 1
     ∷ states.Holding (record { ledger = 0; party = 0; asset = 5 })
     ∷ states.Holding (record { ledger = 4; party = 1; asset = 7 })
     ∷ states.Leg (record { payer = 0; receiver = 1; ledger = 0; asset = 5 })
     ∷ states.Leg (record { payer = 1; receiver = 0; ledger = 4; asset = 7 })
     ∷ []
 
-two-given : Gives two (results.accepted 0 2 5)
-two-given = gives two (said two-records) 2 2 (answered two-records two (said two-records) refl refl refl refl) refl
+pub two-means : Means two (Ok (swapIn (said two-records) 2))
+two-means = means two (said two-records) 2 2 (answered two-records two (said two-records) refl refl refl refl) refl
 
-headed-given : Gives (heading42 ++ two) (results.accepted 42 2 5)
+pub two-given : Gives two (results.accepted 0 2 5)
+two-given = gives two (said two-records) 2 two-means
+
+pub headed-given : Gives (heading42 ++ two) (results.accepted 42 2 5)
 headed-given =
     let rs = states.Heading 42 ∷ two-records in
-    gives (heading42 ++ two) (said rs) 2 2 (answered rs (heading42 ++ two) (said rs) refl refl refl refl) refl
+    gives (heading42 ++ two) (said rs) 2 (means (heading42 ++ two) (said rs) 2 2 (answered rs (heading42 ++ two) (said rs) refl refl refl refl) refl)
 
-cut-given : Gives (take 34 two) (results.refused 4 27)
+pub cut-given : Gives (take 34 two) (results.refused 4 27)
 cut-given =
     let rs : List Statement = take 4 two-records in
     let rest : List ℕ = 0x04 ∷ 0x01 ∷ 0x00 ∷ 0x04 ∷ 0x00 ∷ 0x00 ∷ 0x00 ∷ [] in (
@@ -138,14 +143,17 @@ given : (rs : List Statement) → (leb 1 (length (joined encode rs)) && leb (len
     whole (after start rs) ≡ Some (said rs) → Answer (joined encode rs) (Ok (said rs))
 given rs z l w = answered rs (joined encode rs) (said rs) refl z l w
 
-ring-given : Gives (joined encode ring) (results.accepted 0 3 28)
-ring-given = gives (joined encode ring) (said ring) 3 3 (given ring refl refl refl) refl
+pub ring-means : (outsiders : ℕ) → lawful start (ring outsiders) ≡ true → Means (joined encode (ring outsiders)) (Ok (swapIn (said (ring outsiders)) 3))
+ring-means outsiders l = means (joined encode (ring outsiders)) (said (ring outsiders)) 3 3 (given (ring outsiders) refl l refl) refl
 
-star-given : Gives (joined encode (star 1)) (results.accepted 0 3 7)
-star-given = gives (joined encode (star 1)) (said (star 1)) 3 3 (given (star 1) refl refl refl) refl
+pub ring-given : Gives (joined encode (ring 0)) (results.accepted 0 3 28)
+ring-given = gives (joined encode (ring 0)) (said (ring 0)) 3 (ring-means 0 refl)
+
+pub star-given : Gives (joined encode (star 1)) (results.accepted 0 3 7)
+star-given = gives (joined encode (star 1)) (said (star 1)) 3 (means (joined encode (star 1)) (said (star 1)) 3 3 (given (star 1) refl refl refl) refl)
 
 -- the route 0, 3 is a cycle without leader 1 or 2
-star-refused : Gives (joined encode (star 6)) (results.refused 12 0)
+pub star-refused : Gives (joined encode (star 6)) (results.refused 12 0)
 star-refused =
     let c = said (star 6) in (
       fault NoLeader 0,
@@ -172,7 +180,7 @@ star-refused =
     )
 
 -- no joined route begins with 1 and ends with 0
-chain-refused : Gives (joined encode chain) (results.refused 11 1)
+pub chain-refused : Gives (joined encode chain) (results.refused 11 1)
 chain-refused =
     let c = said chain in (
       fault NotConnected 1,
@@ -200,6 +208,3 @@ chain-refused =
         (not-true (eqb (last 1 (r .by)) 0)
         (of-all (said chain .legs) 3 refl 3 refl (λ r. not (joins 1 0 r)) refl 1 (r .by) (ltb-true 1 3 refl) (r .route)))
         (eq-eqb (last 1 (r .by)) 0 (r .ends))
-
-pub all-known : Known
-all-known = (two-given, (headed-given, (cut-given, (ring-given, (star-given, (star-refused, (chain-refused, tt)))))))

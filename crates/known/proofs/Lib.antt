@@ -1,3 +1,4 @@
 pub mod Decide
 pub mod Files
 pub mod Levels
+pub mod Runs

@@ -15,7 +15,7 @@ use Rattle.protocol.proofs.Queue.{Known, times, waits-taken, handle-deliver, d
 use Rattle.protocol.proofs.Reach.{reached-lasts}
 use Rattle.protocol.proofs.Turns.{each-ind, turned}
 use Rattle.protocol.specs.Calls.{fresh, ticked, over, outsiders, proper, waitingLine, Added, added, Deliveries, handed, Ticked, Call, load, submit, tick′, Answer, refusal, Effect, Settled, Answered, Reached, new, after}
-use Rattle.protocol.specs.Examples.{Delivery, prompt, slow, hands, tickBy, ticksBy, filings}
+use Rattle.protocol.specs.Courses.{Delivery, prompt, slow, hands, tickBy, ticksBy, filings}
 use Rattle.protocol.specs.Law.{Legible, Total}
 use Rattle.protocol.specs.Parties.{file, enter, turns}
 use Rattle.mempool.specs.Calls.{here, later}

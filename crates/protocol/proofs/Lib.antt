@@ -19,5 +19,3 @@ pub mod Law
 pub mod Nevers
 pub mod Attained
 pub mod Meanings
-pub mod Sounds
-pub mod Runs

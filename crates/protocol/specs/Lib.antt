@@ -9,4 +9,4 @@ pub mod Steps
 pub mod Calls
 pub mod Promises
 pub mod Law
-pub mod Examples
+pub mod Courses

@@ -1,7 +1,6 @@
 // The protocol of a swap, and the law that is proved of it. The model is in specs/, the proof in proofs/.
 // Each function does nothing: its contract is a theorem, so that the check asks for its proof.
 ghost use Rattle.protocol.specs.Agree.{BooksAgree};
-ghost use Rattle.protocol.specs.Examples.{Examples};
 ghost use Rattle.protocol.specs.Law.{Law, Histories, Total, Single, Tests, Rules, Begins, Nevers, Pools, Holdings};
 ghost use Rattle.swap.specs.Swaps.{Swap};
 
@@ -40,9 +39,4 @@ pub fn nothing_is_refused()
 // The model moves assets as the books do.
 pub fn books_agree()
     ensures { λ _. ⌜ BooksAgree ⌝ }
-{}
-
-// Two swaps satisfy what the law assumes of a plan, are reached by calls, and end as told.
-pub fn examples_hold()
-    ensures { λ _. ⌜ Examples ⌝ }
 {}

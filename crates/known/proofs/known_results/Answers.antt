@@ -1,4 +1,4 @@
-use Rattle.known.proofs.Files.{all-known}
+use Rattle.known.proofs.Runs.{all-known}
 use Rattle.known.proofs.known_results.Needs as need
 
 pub returns : need.returns
