@@ -5,7 +5,7 @@ use mathlib.Core.Bool.{Bool, true, false, cond, not, _&&_}
 use mathlib.Core.Logic.{⊎-elim}
 use mathlib.Core.Path.{_≡_, refl, sym, ap, fun-ext, subst, _∙_}
 use native.Mathlib.Omega.{arith}
-use Rattle.ledgers.proofs.Sums.{sum-put, term-le-sum}
+use Rattle.swap.proofs.Sums.{sum-set, sum-term}
 use Rattle.ledgers.specs.Calls.{Answer, OnLedger, onLedger, Deposited, Released, refuse, settled, creditVerdict, credited, depositVerdict, deposited, releaseVerdict, released}
 use Rattle.ledgers.specs.Laws.{PaidThrough, Then, Unmoved, SameTotals, DepositsComeBack, DepositsKeepTotals, ReleasesKeepTotals, CreditsRaiseTotals}
 use Rattle.ledgers.specs.Stocks.{Counts, Stock, Rules, Lawful, worth, isLedger, isParty, isAccount, total, content}
@@ -54,20 +54,20 @@ totalOf parties accounts f u = sumBelow parties (λ p. f (Party p) u) + sumBelow
 module _ (n m : ℕ) (f : Counts) (party : ℕ) (exists : party < n) (u : ℕ) where
   pub credited-total : (k : Rules) (asset : ℕ) → totalOf n m (credited k party asset f) u ≡ totalOf n m f u + worth k asset u
   credited-total k asset =
-      let parties = sum-put n party (f (Party party) u + worth k asset u) (λ p. f (Party p) u) exists in
+      let parties = sum-set n party (f (Party party) u + worth k asset u) (λ p. f (Party p) u) exists in
       omega arith
 
   module _ (account : ℕ) (exists′ : account < m) where
     pub deposited-total : (k : Rules) (asset : ℕ) → worth k asset u ≤ f (Party party) u → totalOf n m (deposited k party account asset f) u ≡ totalOf n m f u
     deposited-total k asset enough =
-        let parties = sum-put n party (f (Party party) u - worth k asset u) (λ p. f (Party p) u) exists in
-        let accounts = sum-put m account (f (Escrow account) u + worth k asset u) (λ a. f (Escrow a) u) exists′ in
+        let parties = sum-set n party (f (Party party) u - worth k asset u) (λ p. f (Party p) u) exists in
+        let accounts = sum-set m account (f (Escrow account) u + worth k asset u) (λ a. f (Escrow a) u) exists′ in
         omega arith
 
     pub released-total : totalOf n m (released account party f) u ≡ totalOf n m f u
     released-total =
-        let parties = sum-put n party (f (Party party) u + f (Escrow account) u) (λ p. f (Party p) u) exists in
-        let accounts = sum-put m account 0 (λ a. f (Escrow a) u) exists′ in
+        let parties = sum-set n party (f (Party party) u + f (Escrow account) u) (λ p. f (Party p) u) exists in
+        let accounts = sum-set m account 0 (λ a. f (Escrow a) u) exists′ in
         omega arith
 
 -- ---- what an accepted call was tested for
@@ -174,7 +174,7 @@ module _ (k : Rules) (lawful : Lawful k) (party account asset : ℕ) (f : Counts
 
   -- the account was empty of every unit
   none : (u : ℕ) → u < k .units → f (Escrow account) u ≡ 0
-  none u lt = let part = term-le-sum (k .units) u (f (Escrow account)) lt in omega (arith, ok .empty)
+  none u lt = let part = sum-term (k .units) (f (Escrow account)) u lt in omega (arith, ok .empty)
 
   full : 0 < content k (deposited k party account asset f) account
   full =
@@ -182,7 +182,7 @@ module _ (k : Rules) (lawful : Lawful k) (party account asset : ℕ) (f : Counts
       let holds : deposited k party account asset f (Escrow account) unit ≡ f (Escrow account) unit + worth k asset unit = cond-true _ _ _ (self account) in
       let counts : worth k asset unit ≡ k .amount asset = cond-true _ _ _ (self unit) in
       let some = lawful asset (ok .asset-ok) in
-      let part = term-le-sum (k .units) unit (deposited k party account asset f (Escrow account)) (some .1) in
+      let part = sum-term (k .units) (deposited k party account asset f (Escrow account)) unit (some .1) in
       omega arith
 
   back-ok : releaseVerdict k account party (deposited k party account asset f) ≡ Ok tt

@@ -1,3 +1,2 @@
 pub mod LawsHold
 pub mod Rows
-pub mod Sums

@@ -10,7 +10,7 @@ use native.Mathlib.Nat.{le-trans, le-of-eq}
 use native.Mathlib.Omega.{arith}
 use Rattle.coverage.proofs.Below.{any-below, none-below}
 use Rattle.coverage.specs.Coverage.{covered, coinsHeld, coinsOwed, coinsPaid, coinsOf, holdsTitle, isTitle, namesTitle, names, anyBelow}
-use Rattle.plan.proofs.Sums.{sum-zero, sum-le, sum-term, sum-swap, sum-most, sum-one}
+use Rattle.swap.proofs.Sums.{sum-zero, sum-le, sum-term, sum-swap, sum-most, sum-one}
 use Rattle.std.proofs.shelf.Tests.{cases-eq, cases-bool, eq-eqb, ne-eqb, eqb-true, cond-true, cond-false, and-parts, and-from, and-left, and-right, leb-true, not-true, both-ways}
 use Rattle.swap.specs.Assets.{worth, coinWorth, titleWorth, holdsCoins, coinAsset, titleAsset, assetOn}
 use Rattle.swap.specs.Limits.{maxParties, maxCoins, coinCeiling}

@@ -1,5 +1,4 @@
 pub mod Exits
 pub mod Facts
 pub mod Holdings
-pub mod Sums
 pub mod Unique

@@ -8,7 +8,8 @@ use mathlib.Core.Path.{_≡_, refl, sym, ap, _∙_}
 use native.Mathlib.Omega.{arith}
 use Rattle.protocol.proofs.Basics.{Fails, put-case}
 use Rattle.protocol.proofs.Invariants.{Signed, Fair, Books, gone, come}
-use Rattle.protocol.proofs.Sums.{sum-zero, sum-le, sum-front, sum-put, sum-term, sum-less}
+use Rattle.protocol.proofs.Sums.{sum-put}
+use Rattle.swap.proofs.Sums.{sum-zero, sum-le, sum-front, sum-term, sum-less}
 use Rattle.protocol.specs.Calls.{fresh}
 use Rattle.protocol.specs.Promises.{spent, fallen}
 use Rattle.protocol.specs.State.{Phase, Vacant, Held, Paid, Back, isVacant, isHeld, isPaid, Escrow, Transaction, Open, Key, Refund, legOf, Run, stands}

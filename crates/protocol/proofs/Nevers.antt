@@ -16,7 +16,7 @@ use Rattle.protocol.proofs.Queue.{Queue, Known, times, numbers, waits-taken, n
 use Rattle.protocol.proofs.Reach.{reached-lasts}
 use Rattle.protocol.proofs.Room.{journal-room}
 use Rattle.protocol.proofs.Standing.{party}
-use Rattle.protocol.proofs.Sums.{sum-zero, sum-changed, sum-most}
+use Rattle.swap.proofs.Sums.{sum-zero, sum-changed, sum-most}
 use Rattle.protocol.proofs.Ways.{pays-in, way-signed, some-none}
 use Rattle.protocol.specs.Calls.{fresh}
 use Rattle.protocol.specs.Law.{Nevers, Pools, Holdings}

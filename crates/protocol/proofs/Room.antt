@@ -10,7 +10,7 @@ use native.Mathlib.Nat.{mul-le-mul}
 use native.Mathlib.Omega.{arith}
 use Rattle.protocol.proofs.Basics.{one-most}
 use Rattle.protocol.proofs.Invariants.{Inv, LineFact}
-use Rattle.protocol.proofs.Sums.{sum-le, sum-term, sum-swap, sum-most, sum-one}
+use Rattle.swap.proofs.Sums.{sum-le, sum-term, sum-swap, sum-most, sum-one}
 use Rattle.protocol.specs.Calls.{outsiders}
 use Rattle.protocol.specs.State.{Transaction, Open, Key, Refund, Escrow, Run, conforming}
 use Rattle.protocol.specs.Steps.{Purpose, opens, keys, refunds, purpose}

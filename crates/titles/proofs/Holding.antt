@@ -8,7 +8,7 @@ use mathlib.Core.List.{List}
 use mathlib.Core.Logic.{⊎-elim}
 use mathlib.Core.Path.{_≡_, refl, sym, ap, subst, _∙_}
 use native.Mathlib.Omega.{arith}
-use Rattle.ledgers.proofs.Sums.{sum-same, term-le-sum}
+use Rattle.swap.proofs.Sums.{sum-zero, sum-term}
 use Rattle.ledgers.specs.Calls.{Settles, refuse, depositVerdict, deposited, releaseVerdict, released}
 use Rattle.ledgers.specs.Stocks.{content, same, titleRules}
 use Rattle.ledgers.specs.declared.refusals.Refusal.the-variants.{AccountTaken, TooLittle, AccountEmpty}
@@ -55,19 +55,15 @@ module _ (ts : List (Option Holder)) (account : ℕ) where
   pub some-content : (k : ℕ) → k < titles → heldBy (getD ts k None) (Escrow account) ≡ true → 0 < content titleRules (held ts) account
   some-content k lt is =
       let one : held ts (Escrow account) k ≡ 1 = cond-true _ 1 0 is in
-      let part = term-le-sum titles k (held ts (Escrow account)) lt in
+      let part = sum-term titles (held ts (Escrow account)) k lt in
       more (held ts (Escrow account) k) _ one part
     where
       more : (x y : ℕ) → x ≡ 1 → x ≤ y → 0 < y
       more x y e le = omega arith
 
-  zero-sum : (n : ℕ) → sumBelow n (λ _. 0) ≡ 0
-  zero-sum zero = refl
-  zero-sum (suc n) = let below = zero-sum n in omega arith
-
   pub no-content : length ts ≡ titles → ((k : ℕ) → k < length ts → heldBy (getD ts k None) (Escrow account) ≡ false) → content titleRules (held ts) account ≡ 0
   no-content full none =
-      sum-same titles (λ _. 0) (held ts (Escrow account)) (λ k lt. let less : k < length ts = omega arith in cond-false _ 1 0 (none k less)) ∙ zero-sum titles
+      sum-zero titles (held ts (Escrow account)) (λ k lt. let less : k < length ts = omega arith in cond-false _ 1 0 (none k less))
 
 -- ---- the effects, one title at a time
 handed-count : (t : Option Holder) (account party : ℕ) (h : Holder)
