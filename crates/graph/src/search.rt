@@ -9,7 +9,7 @@ use swap::records::Leg;
 use swap::sets::PartySet;
 
 // The parties of a swap but for those of a set.
-pub fn besides(parties: u8, out: PartySet) -> [bool; ROOM]
+pub(crate) fn besides(parties: u8, out: PartySet) -> [bool; ROOM]
     ensures { λ r. ⌜ Besides (count parties) (out .bits) r ⌝ }
 {
     let mut free = [false; ROOM];
@@ -35,7 +35,7 @@ fn merged(best: [u8; ROOM], further: [u8; ROOM]) -> [u8; ROOM]
 }
 
 // For each end, the most parties on a way from x through free parties; 0 if there is no way.
-pub fn row(legs: &[Leg], free: [bool; ROOM], x: u8) -> [u8; ROOM]
+pub(crate) fn row(legs: &[Leg], free: [bool; ROOM], x: u8) -> [u8; ROOM]
     requires { ⌜ x < maxParties ⌝ }
     ensures { λ r. ⌜ Row (Pays (now (legs .entry))) free x r ⌝ }
 {

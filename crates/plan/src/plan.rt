@@ -129,3 +129,59 @@ pub fn one_meaning()
 pub fn means_sound()
     ensures { λ _. ⌜ MeansSound ⌝ }
 {}
+
+#[cfg(test)]
+mod tests {
+    use super::*;
+    use std::test::*;
+
+    // Terms of three parties with leader 0, and each party's 5 coins on ledger 0.
+    const OPENING: [u8; 26] = [
+        2,
+        3,
+        1,
+        0,
+        1,
+        3,
+        0,
+        0,
+        0,
+        0,
+        0,
+        5,
+        3,
+        0,
+        1,
+        0,
+        0,
+        0,
+        5,
+        3,
+        0,
+        2,
+        0,
+        0,
+        0,
+        5,
+    ];
+
+    // Why a plan of 5 coins from each payer to each receiver is refused.
+    fn refused(heap: Global, legs: &[(u8, u8)]) -> Result<Fault, Fail> {
+        let mut bytes = OPENING.to_vec(heap)?;
+        for (payer, receiver) in legs {
+            bytes.extend_from_slice(&[4, *payer, *receiver, 0, 0, 0, 0, 5])?;
+        }
+        match Plan::read(heap, &bytes) {
+            Err(Refusal::Fault(fault)) => Ok(fault),
+            _ => Err(Fail::new("not refused")),
+        }
+    }
+
+    #[test]
+    fn refusals(rt: LibcRuntime) -> Result<(), Fail> {
+        let twice = refused(rt.alloc(), &[(0, 1), (1, 2), (2, 0), (0, 2)])?;
+        check_eq((twice.number(), twice.place), (10, 3))?;
+        let open = refused(rt.alloc(), &[(0, 1), (1, 2)])?;
+        check_eq((open.number(), open.place), (11, 1))
+    }
+}

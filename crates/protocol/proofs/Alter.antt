@@ -12,16 +12,17 @@ use Rattle.protocol.proofs.Standing.{clash, vacant, held, standing, stand, lea
 use Rattle.protocol.proofs.Ways.{judged-way, way-party, none-of, some-none}
 use Rattle.protocol.specs.State.{Phase, Vacant, Held, Paid, Back, isVacant, isHeld, Escrow, Transaction, Open, Key, Refund, Run, conforming, stands, allLeaders, openEnd, keyEnd, refundTick}
 use Rattle.protocol.specs.Stocks.{Stock}
-use Rattle.protocol.specs.Tables.{put, setSize, someBelow, allBelow}
+use Rattle.protocol.specs.Tables.{put, someBelow, allBelow}
 use Rattle.protocol.specs.Verdicts.{ends, tests, altered, allOpened, properLocks}
 use Rattle.std.proofs.shelf.Tests.{eqb-true, and-parts, or-cases, not-true, not-false, cases-bool, ltb-false, leb-false}
 use Rattle.std.specs.declared.option.Option.the-variants.{Some, None}
 use Rattle.swap.specs.Assets.{assetOn}
 use Rattle.swap.specs.Swaps.{Swap, Sound}
+use Rattle.swap.specs.Limits.{setBits}
 
 -- the escrow of leg i at tick t
 pub record Shape (p : Swap) (t i : ℕ) (e : Escrow) : Type 0 where
-  pub proper : (lock : ℕ) → isVacant (e .phase) ≡ false → lock < setSize → e .locks lock ≡ true → p .leader lock ≡ true
+  pub proper : (lock : ℕ) → isVacant (e .phase) ≡ false → lock < setBits → e .locks lock ≡ true → p .leader lock ≡ true
   pub ranged : isVacant (e .phase) ≡ false → assetOn (p .ledger i) (e .asset) ≡ true
   pub shut : (lock : ℕ) → e .phase ≡ Vacant → e .opened lock ≡ None
   pub held : e .phase ≡ Held → allOpened (e .locks) (e .opened) ≡ false
@@ -76,7 +77,7 @@ module _ (p : Swap) (s : Sound p) (r : Run) (n i : ℕ) (b : i < p .legs) (e : E
       let filer : r .line n .filer ≡ p .payer i = eqb-true _ _ (not-false _ (f .0)) in
       let empty : e .phase ≡ Vacant = vacant _ (not-false _ (f .1 .0)) in
       let time : r .tick ≤ openEnd p = ltb-false _ _ (f .1 .1 .0) in
-      let locked : (someBelow setSize locks ≡ true) × (allBelow setSize (λ q. not (locks q) || p .leader q) ≡ true) = and-parts _ _ (not-false _ (f .1 .1 .1 .0)) in
+      let locked : (someBelow setBits locks ≡ true) × (allBelow setBits (λ q. not (locks q) || p .leader q) ≡ true) = and-parts _ _ (not-false _ (f .1 .1 .1 .0)) in
       record {
         stood = λ h. no-phase _ empty (standing p i e h .0);
         kept = λ lock q h. let z = shape .shut lock empty in let y : _≡_ {A = ℕ} 0 1 = cc in absurd (omega arith);
@@ -93,10 +94,10 @@ module _ (p : Swap) (s : Sound p) (r : Run) (n i : ℕ) (b : i < p .legs) (e : E
               line ∙ (λ j. Open i (g .1 j) (g .2 j)),
             ));
         shape = λ _. record {
-          proper = λ lock _ h l. ⊎-elim (λ m. absurd (clash (locks lock) l (not-true _ m))) (λ m. m) (or-cases _ _ (all-in setSize _ (locked .1) lock h));
+          proper = λ lock _ h l. ⊎-elim (λ m. absurd (clash (locks lock) l (not-true _ m))) (λ m. m) (or-cases _ _ (all-in setBits _ (locked .1) lock h));
           ranged = λ _. range;
           shut = λ lock h. refl;
-          held = λ _. let t = some-in setSize locks (locked .0) in
+          held = λ _. let t = some-in setBits locks (locked .0) in
               ⊎-elim (λ a. absurd (some-none None refl (opened-in locks (λ _. None) a (t .0) (t .1) (t .2)))) (λ a. a) (cases-bool (allOpened locks (λ _. None)));
           paid = λ h. let y : _≡_ {A = ℕ} 0 1 = cc in absurd (omega arith);
           returned = λ h. let y : _≡_ {A = ℕ} 0 1 = cc in absurd (omega arith);
@@ -104,7 +105,7 @@ module _ (p : Swap) (s : Sound p) (r : Run) (n i : ℕ) (b : i < p .legs) (e : E
         };
       }
 
-  in-set : {x : ℕ} → x < p .parties → x < setSize
+  in-set : {x : ℕ} → x < p .parties → x < setBits
   in-set h = let most = s .most in omega arith
 
   pub alter-key : (q : List ℕ) → Shape p (r .tick) i e → Fails (tests p (r .tick) (r .signed) (r .stock) (r .line n .filer) (Key i q) e)

@@ -16,11 +16,12 @@ use Rattle.protocol.proofs.Ways.{way-party, way-begins, way-joined, way-suffix
 use Rattle.protocol.specs.State.{Phase, Vacant, Held, Paid, Back, isVacant, isHeld, Escrow, Transaction, Open, Key, Refund, legOf, Run, conforming, stands, allLeaders, keyEnd}
 use Rattle.protocol.specs.Steps.{purpose}
 use Rattle.protocol.specs.Stocks.{Stock, refuses}
-use Rattle.protocol.specs.Tables.{isSome, setSize}
+use Rattle.protocol.specs.Tables.{isSome}
 use Rattle.protocol.specs.Verdicts.{pending, begins, ends, tests, altered, effect, recorded, judged, deliver, properLocks}
 use Rattle.std.proofs.shelf.Tests.{eqb-true, eqb-false, eq-eqb, and-from, not-from-true, cases-bool, le-ltb, lt-leb}
 use Rattle.std.specs.declared.option.Option.the-variants.{Some}
 use Rattle.swap.specs.Swaps.{Swap, Sound}
+use Rattle.swap.specs.Limits.{setBits}
 
 pub shape-of : (p : Swap) (r : Run) → Inv p r → (i : ℕ) → i < p .legs → Shape p (r .tick) i (r .escrow i)
 shape-of p r k i b = record {
@@ -148,7 +149,7 @@ unfolding properLocks
 leaders-proper p s =
     let b = s .leaders (s .leads .0) (s .leads .1) in
     let m = s .most in
-    and-from _ _ (some-of setSize (p .leader) (s .leads .0) (omega arith) (s .leads .1)) (all-of setSize (λ q. not (p .leader q) || p .leader q) (λ q _. excluded (p .leader q)))
+    and-from _ _ (some-of setBits (p .leader) (s .leads .0) (omega arith) (s .leads .1)) (all-of setBits (λ q. not (p .leader q) || p .leader q) (λ q _. excluded (p .leader q)))
   where
     excluded : (b : Bool) → (not b || b) ≡ true
     excluded true = refl
@@ -203,7 +204,7 @@ module _ (p : Swap) (s : Sound p) (takes : Takes p) (enough : Enough p) (r : Run
       stood : stands p i (r .escrow i) ≡ true
       stood = entering-in p (r .escrow) (r .line n .filer) (k .facts .signs (r .line n .filer) (ends q) q c (h .signs) .1) i (h .entering)
 
-      small : ends q < setSize
+      small : ends q < setBits
       small = let a = way-party p s way (subst (λ z. z < p .parties) (h .entering .1) (s .exist i b .1)) in let m = s .most in omega arith
 
       lock : r .escrow i .locks (ends q) ≡ true

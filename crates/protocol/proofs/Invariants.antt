@@ -10,12 +10,12 @@ use Rattle.protocol.specs.Calls.{outsiders}
 use Rattle.protocol.specs.State.{Vacant, Held, Paid, Back, isVacant, isHeld, isPaid, Escrow, Transaction, Open, Key, Refund, legOf, Run, conforming, stands, enteringStand, openEnd, keyEnd, refundTick}
 use Rattle.protocol.specs.Steps.{purpose, HasLine, Entering, Leaving}
 use Rattle.protocol.specs.Stocks.{Stock}
-use Rattle.protocol.specs.Tables.{isSome, setSize}
+use Rattle.protocol.specs.Tables.{isSome}
 use Rattle.protocol.specs.Verdicts.{ends, pays, allOpened, pending}
 use Rattle.std.specs.declared.option.Option.{Option}
 use Rattle.std.specs.declared.option.Option.the-variants.{Some, None}
 use Rattle.swap.specs.Assets.{worth, assetOn}
-use Rattle.swap.specs.Limits.{outsiderLines}
+use Rattle.swap.specs.Limits.{outsiderLines, setBits}
 use Rattle.swap.specs.Routes.{mem}
 use Rattle.swap.specs.Swaps.{Swap, start, sumBelow}
 use Rattle.swap.specs.declared.records.Holder.the-variants.{Party}
@@ -35,7 +35,7 @@ pub record Facts (p : Swap) (t : ℕ) (escrow : ℕ → Escrow) (σ : Signed) (b
   pub routes : (i lock : ℕ) (q : List ℕ) → i < p .legs → escrow i .opened lock ≡ Some q → Way p σ (p .receiver i) lock q
   -- opened locks, and those of an escrow, are leaders'
   pub led : (i lock : ℕ) (q : List ℕ) → i < p .legs → escrow i .opened lock ≡ Some q → p .leader lock ≡ true
-  pub proper : (i lock : ℕ) → i < p .legs → isVacant (escrow i .phase) ≡ false → lock < setSize → escrow i .locks lock ≡ true → p .leader lock ≡ true
+  pub proper : (i lock : ℕ) → i < p .legs → isVacant (escrow i .phase) ≡ false → lock < setBits → escrow i .locks lock ≡ true → p .leader lock ≡ true
   pub ranged : (i : ℕ) → i < p .legs → isVacant (escrow i .phase) ≡ false → assetOn (p .ledger i) (escrow i .asset) ≡ true
   pub shut : (i lock : ℕ) → i < p .legs → escrow i .phase ≡ Vacant → escrow i .opened lock ≡ None
   pub held : (i : ℕ) → i < p .legs → escrow i .phase ≡ Held → allOpened (escrow i .locks) (escrow i .opened) ≡ false

@@ -18,11 +18,11 @@ use Rattle.protocol.specs.Calls.{proper, outsiders, fresh}
 use Rattle.protocol.specs.Promises.{paidInFull, putUp, fallen, spent}
 use Rattle.protocol.specs.State.{Phase, Vacant, Held, Paid, Back, isVacant, isHeld, isPaid, isBack, Transaction, Open, Key, Refund, Run, conforming, stands, enteringStand, refundTick, lastTick}
 use Rattle.protocol.specs.Steps.{HasLine, Entering, Rested, Step, outside, begins, signs, files, delivers, ticks, Steps, stop, then}
-use Rattle.protocol.specs.Tables.{isSome, setSize, countBelow}
+use Rattle.protocol.specs.Tables.{isSome, countBelow}
 use Rattle.protocol.specs.Verdicts.{allOpened}
 use Rattle.std.proofs.shelf.Tests.{and-parts, and-from, or-left, or-right, not-true, cases-bool, cases-eq, ltb-true}
 use Rattle.std.specs.declared.option.Option.the-variants.{Some, None}
-use Rattle.swap.specs.Limits.{outsiderLines}
+use Rattle.swap.specs.Limits.{outsiderLines, setBits}
 use Rattle.swap.specs.Swaps.{Swap, Sound}
 
 pub fair : (p : Swap) (x : Transaction) → proper p x ≡ true → Fair p x
@@ -124,7 +124,7 @@ module _ (p : Swap) (s : Sound p) (r : Run) (k : Inv p r) (rest : Rested p r) wh
             let h = k .facts .planned j jb (subst (λ u. conforming p u ≡ true) (sym je) c) (rw phase refl) in
             (h .0, subst (λ u. r .begun u ≡ true) je (h .1))
 
-        small : (lock : ℕ) → p .leader lock ≡ true → lock < setSize
+        small : (lock : ℕ) → p .leader lock ≡ true → lock < setBits
         small lock l = let a = s .leaders lock l in let b = s .most in omega arith
 
         shown : (lock : ℕ) → p .leader lock ≡ true → isSome (r .escrow j .opened lock) ≡ true

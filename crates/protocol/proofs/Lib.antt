@@ -19,3 +19,4 @@ pub mod Law
 pub mod Nevers
 pub mod Attained
 pub mod Meanings
+pub mod Pools

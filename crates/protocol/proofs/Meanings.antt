@@ -7,12 +7,12 @@ use Rattle.protocol.proofs.Basics.{all-in, all-of, some-in, some-of}
 use Rattle.protocol.proofs.Standing.{clash, entering-in, entering-of}
 use Rattle.protocol.proofs.Ways.{pays-in, pays-of}
 use Rattle.protocol.specs.Law.{Tests}
-use Rattle.protocol.specs.Tables.{setSize}
 use Rattle.protocol.specs.Verdicts.{joined, properLocks}
 use Rattle.std.proofs.shelf.Tests.{and-parts, and-from, not-true, not-from-false}
 use Rattle.swap.specs.Routes.{Joined}
 use Rattle.swap.specs.Sets.{Exactly}
 use Rattle.swap.specs.Swaps.{Swap, Pays}
+use Rattle.swap.specs.Limits.{setBits}
 
 exactly : (b : Bool) (P : Type 0) → (b ≡ true → P) → (P → b ≡ true) → Exactly b P
 exactly true P f g = f refl
@@ -48,7 +48,7 @@ module _ (p : Swap) where
     standing = λ escrow v. exactly _ _ (entering-in p escrow v) (entering-of p escrow v);
     locks = λ locks. exactly (properLocks p locks) _
         (λ e. let a = and-parts _ _ e in
-        (some-in setSize locks (a .0), λ q b h. implies (locks q) (p .leader q) (all-in setSize (λ k. not (locks k) || p .leader k) (a .1) q b) h))
-        (λ h. and-from _ _ (some-of setSize locks (h .0 .0) (h .0 .1) (h .0 .2))
-        (all-of setSize (λ k. not (locks k) || p .leader k) (λ q b. implied (locks q) (p .leader q) (h .1 q b))));
+        (some-in setBits locks (a .0), λ q b h. implies (locks q) (p .leader q) (all-in setBits (λ k. not (locks k) || p .leader k) (a .1) q b) h))
+        (λ h. and-from _ _ (some-of setBits locks (h .0 .0) (h .0 .1) (h .0 .2))
+        (all-of setBits (λ k. not (locks k) || p .leader k) (λ q b. implied (locks q) (p .leader q) (h .1 q b))));
   }

@@ -15,6 +15,7 @@ use Rattle.protocol.proofs.Room.{journal-room}
 use Rattle.protocol.proofs.Turns.{Heard, Longer, turned, heard-fresh, frame-file, done-other}
 use Rattle.protocol.specs.Calls.{proper, ticked, fresh, waitingLine, Added, Deliveries, handed, Ticked, Taken-up, outsiders}
 use Rattle.protocol.specs.Parties.{file}
+use Rattle.mempool.proofs.Keeping.{taken-all, all-taken, taken-length}
 use Rattle.mempool.specs.Calls.{here, later}
 use Rattle.protocol.specs.Pool.{Taken, Fresh, Submitted}
 use Rattle.protocol.specs.State.{Transaction, legOf, Line, Run}
@@ -56,21 +57,10 @@ one-if-true true h = refl
 one-if-true false h = absurd (omega arith)
 
 -- lists with one taken out
-all-out : (P : Waiting → Type 0) {w : Waiting} {ws rest : List Waiting} → Taken w ws rest → All P ws → P w × All P rest
-all-out P here h = h
-all-out P (later t) h = let k = all-out P t (h .1) in (k .0, (h .0, k .1))
-
-all-back : (P : Waiting → Type 0) {w : Waiting} {ws rest : List Waiting} → Taken w ws rest → P w → All P rest → All P ws
-all-back P here x h = (x, h)
-all-back P (later t) x h = (h .0, all-back P t x (h .1))
 
 times-out : {w : Waiting} {ws rest : List Waiting} → Taken w ws rest → (n : ℕ) → times n ws ≡ times n rest + one-if (eqb n (w .number))
 times-out here n = omega arith
 times-out (later t) n = let k = times-out t n in omega arith
-
-length-out : {w : Waiting} {ws rest : List Waiting} → Taken w ws rest → length ws ≡ suc (length rest)
-length-out here = refl
-length-out (later t) = ap suc (length-out t)
 
 -- a number that waits is a line without a verdict
 all-times : (P : Waiting → Type 0) (n : ℕ) (ws : List Waiting) → All P ws → 0 < times n ws → (w : Waiting) × (w .number ≡ n) × P w
@@ -155,7 +145,7 @@ ltb-suc k m d = ⊎-elim
 queue-more : (m : ℕ) (line : ℕ → Line) (verdict : ℕ → ℕ) (w : Waiting) (before after : List Waiting) → Queue m line verdict before → Taken w after before
     → w .number ≡ m → line m .filer ≡ w .filer → line m .filed ≡ w .tick → verdict m ≡ pending → Queue (suc m) line verdict after
 queue-more m line verdict w before after q t e filer filed wait = record {
-  known = all-back (Known (suc m) line) t (omega arith, ap (λ k. line k .filer) e ∙ filer, ap (λ k. line k .filed) e ∙ filed)
+  known = all-taken (Known (suc m) line) t (omega arith, ap (λ k. line k .filer) e ∙ filer, ap (λ k. line k .filed) e ∙ filed)
       (all-weaker (Known m line) (Known (suc m) line) (λ w h. (omega arith, h .1, h .2)) before (q .known));
   once = λ k. times-out t k ∙ ⊎-elim
       (λ d. let a : times k before ≡ 0 = q .once k ∙ cond-false _ 1 0 (and-left _ _ (le-ltb k m (omega arith))) in
@@ -167,7 +157,7 @@ queue-more m line verdict w before after q t e filer filed wait = record {
       let g : one-if (ltb k (suc m) && eqb (verdict k) pending) ≡ one-if (ltb k m && eqb (verdict k) pending) = rw (ltb-suc k m d) refl in
       omega arith)
       (cases-eq k m);
-  short = let a = q .short in let b = length-out t in omega arith;
+  short = let a = q .short in let b = taken-length t in omega arith;
 }
 
 -- the mempool takes one more line
@@ -192,7 +182,7 @@ queue-filed r s ws after l a q fits = queue-added a (queue-longer r s ws l q) (�
 queue-judged : (m : ℕ) (line : ℕ → Line) (verdict : ℕ → ℕ) (w : Waiting) (before after : List Waiting) (j : ℕ) → j < 255 → Queue m line verdict before → Taken w before after
     → Queue m line (put verdict (w .number) j) after
 queue-judged m line verdict w before after j small q t = record {
-  known = all-out (Known m line) t (q .known) .1;
+  known = taken-all (Known m line) t (q .known) .1;
   once = λ k. let a = times-out t k in let b = q .once k in
       put-case (λ y. times k after ≡ one-if (ltb k m && eqb y pending)) verdict (w .number) j k
       (λ d. let e : one-if (eqb k (w .number)) ≡ 1 = cond-true _ 1 0 (eq-eqb k (w .number) d) in
@@ -200,7 +190,7 @@ queue-judged m line verdict w before after j small q t = record {
       let g : one-if (ltb k m && eqb j pending) ≡ 0 = cond-false _ 1 0 (and-right _ _ (ne-eqb j pending (omega arith))) in
       omega arith)
       (λ d. let e : one-if (eqb k (w .number)) ≡ 0 = cond-false _ 1 0 (ne-eqb k (w .number) d) in omega arith);
-  short = let a = q .short in let b = length-out t in omega arith;
+  short = let a = q .short in let b = taken-length t in omega arith;
 }
 
 -- what deliveries leave

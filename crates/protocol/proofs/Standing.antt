@@ -9,11 +9,12 @@ use native.Mathlib.Omega.{arith}
 use Rattle.protocol.proofs.Basics.{all-in, all-of, all-fails}
 use Rattle.protocol.specs.State.{Phase, Vacant, Held, Paid, Back, isVacant, isHeld, isPaid, Escrow, conforming, stands, allLeaders, enteringStand}
 use Rattle.protocol.specs.Steps.{Entering}
-use Rattle.protocol.specs.Tables.{sameBool, isSome, setSize}
+use Rattle.protocol.specs.Tables.{sameBool, isSome}
 use Rattle.protocol.specs.Verdicts.{allOpened}
 use Rattle.std.proofs.shelf.Tests.{both-ways, eqb-true, eq-eqb, and-parts, and-from, or-cases, or-left, or-right, not-true, not-from-false, cases-bool, ltb-true}
 use Rattle.std.specs.declared.option.Option.{Option}
 use Rattle.swap.specs.Swaps.{Swap}
+use Rattle.swap.specs.Limits.{setBits}
 
 pub clash : (b : Bool) → b ≡ true → b ≡ false → ⊥
 clash b t f = both-ways b f t
@@ -47,24 +48,24 @@ same-self false = refl
 
 pub leaders-self : (p : Swap) → allLeaders p (p .leader) ≡ true
 unfolding allLeaders
-leaders-self p = all-of setSize (λ q. sameBool (p .leader q) (p .leader q)) (λ k _. same-self (p .leader k))
+leaders-self p = all-of setBits (λ q. sameBool (p .leader q) (p .leader q)) (λ k _. same-self (p .leader k))
 
-pub leader-lock : (p : Swap) (locks : ℕ → Bool) → allLeaders p locks ≡ true → (q : ℕ) → q < setSize → locks q ≡ p .leader q
+pub leader-lock : (p : Swap) (locks : ℕ → Bool) → allLeaders p locks ≡ true → (q : ℕ) → q < setBits → locks q ≡ p .leader q
 unfolding allLeaders
-leader-lock p locks e q h = same-true (locks q) (p .leader q) (all-in setSize (λ k. sameBool (locks k) (p .leader k)) e q h)
+leader-lock p locks e q h = same-true (locks q) (p .leader q) (all-in setBits (λ k. sameBool (locks k) (p .leader k)) e q h)
 
 -- every lock that a set of opened locks names is opened
-pub opened-in : (locks : ℕ → Bool) (opened : ℕ → Option (List ℕ)) → allOpened locks opened ≡ true → (q : ℕ) → q < setSize → locks q ≡ true → isSome (opened q) ≡ true
+pub opened-in : (locks : ℕ → Bool) (opened : ℕ → Option (List ℕ)) → allOpened locks opened ≡ true → (q : ℕ) → q < setBits → locks q ≡ true → isSome (opened q) ≡ true
 unfolding allOpened
 opened-in locks opened e q h l =
-    let t = all-in setSize (λ k. not (locks k) || isSome (opened k)) e q h in
+    let t = all-in setBits (λ k. not (locks k) || isSome (opened k)) e q h in
     ⊎-elim (λ n. absurd (clash (locks q) l (not-true _ n))) (λ s. s) (or-cases (not (locks q)) (isSome (opened q)) t)
 
-pub opened-of : (locks : ℕ → Bool) (opened : ℕ → Option (List ℕ)) → ((q : ℕ) → q < setSize → locks q ≡ true → isSome (opened q) ≡ true) → allOpened locks opened ≡ true
+pub opened-of : (locks : ℕ → Bool) (opened : ℕ → Option (List ℕ)) → ((q : ℕ) → q < setBits → locks q ≡ true → isSome (opened q) ≡ true) → allOpened locks opened ≡ true
 unfolding allOpened
-opened-of locks opened h = all-of setSize (λ k. not (locks k) || isSome (opened k)) (λ k b. go k b (locks k) refl)
+opened-of locks opened h = all-of setBits (λ k. not (locks k) || isSome (opened k)) (λ k b. go k b (locks k) refl)
   where
-    go : (k : ℕ) → k < setSize → (b : Bool) → locks k ≡ b → (not (locks k) || isSome (opened k)) ≡ true
+    go : (k : ℕ) → k < setBits → (b : Bool) → locks k ≡ b → (not (locks k) || isSome (opened k)) ≡ true
     go k b true e = or-right _ _ (h k b e)
     go k b false e = or-left _ _ (not-from-false _ e)
 

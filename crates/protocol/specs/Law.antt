@@ -11,13 +11,12 @@ use Rattle.protocol.specs.Promises.{Promises, Final}
 use Rattle.protocol.specs.State.{Held, Escrow, Open, Run, State, running, conforming, stands, enteringStand, idle}
 use Rattle.protocol.specs.Steps.{Entering, Leaving, Rested, Steps}
 use Rattle.protocol.specs.Stocks.{content}
-use Rattle.protocol.specs.Tables.{setSize}
 use Rattle.protocol.specs.Verdicts.{joined, properLocks, judged, pending}
 use Rattle.std.specs.declared.option.Option.the-variants.{Some, None}
 use Rattle.std.specs.declared.result.Result.the-variants.{Ok, Err}
 use Rattle.std.specs.shelf.Lists.{All}
 use Rattle.swap.specs.Assets.{worth}
-use Rattle.swap.specs.Limits.{fileLedgers, maxLines, maxParties}
+use Rattle.swap.specs.Limits.{fileLedgers, maxLines, maxParties, setBits}
 use Rattle.swap.specs.Routes.{mem, distinct, Joined}
 use Rattle.swap.specs.Sets.{Exactly}
 use Rattle.swap.specs.Swaps.{Swap, Sound, Pays, start, sumBelow, ceiling}
@@ -67,7 +66,7 @@ pub record Tests (p : Swap) : Type 0 where
   pub routes : (r : List ℕ) → Exactly (joined p r) (Joined (Pays p) r)
   pub standing : (escrow : ℕ → Escrow) (v : ℕ) → Exactly (enteringStand p escrow v) ((i : ℕ) → Entering p v i → stands p i (escrow i) ≡ true)
   pub locks : (locks : ℕ → Bool) → Exactly (properLocks p locks)
-      (((q : ℕ) × (q < setSize) × (locks q ≡ true)) × ((q : ℕ) → q < setSize → locks q ≡ true → p .leader q ≡ true))
+      (((q : ℕ) × (q < setBits) × (locks q ≡ true)) × ((q : ℕ) → q < setBits → locks q ≡ true → p .leader q ≡ true))
 
 -- The rules in their order are the relation: a run comes about by steps that are allowed, and after each call nothing is left undone.
 pub record Ruled (p : Swap) (r : Run) (ws : List Waiting) : Type 0 where

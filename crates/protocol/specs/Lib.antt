@@ -10,3 +10,4 @@ pub mod Calls
 pub mod Promises
 pub mod Law
 pub mod Courses
+pub mod Pools

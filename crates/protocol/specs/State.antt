@@ -4,11 +4,12 @@ use lib.Dec.{eqb, ltb}
 use mathlib.Core.Bool.{Bool, true, false, cond, not, _&&_}
 use mathlib.Core.List.{List}
 use Rattle.protocol.specs.Stocks.{Stock}
-use Rattle.protocol.specs.Tables.{allBelow, sameBool, setSize}
+use Rattle.protocol.specs.Tables.{allBelow, sameBool}
 use Rattle.std.specs.declared.option.Option.{Option}
 use Rattle.swap.specs.Swaps.{Swap}
 pub use Rattle.swap.specs.Ticks.{openEnd, keyEnd, refundTick, lastTick}
 use Rattle.swap.specs.declared.records.Waiting.{Waiting}
+use Rattle.swap.specs.Limits.{setBits}
 
 -- An escrow is none (Vacant), open (Held), paid or back.
 pub data Phase : Type 0 where
@@ -91,7 +92,7 @@ module _ (p : Swap) where
 
   -- the locks are all leaders
   unfoldable pub allLeaders : (ℕ → Bool) → Bool
-  allLeaders locks = allBelow setSize (λ q. sameBool (locks q) (p .leader q))
+  allLeaders locks = allBelow setBits (λ q. sameBool (locks q) (p .leader q))
 
   -- opened with the plan's asset and with all leaders as locks, even if it has ended since
   abbrev pub stands : ℕ → Escrow → Bool

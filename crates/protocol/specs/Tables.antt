@@ -51,7 +51,3 @@ abbrev pub sameBool : Bool → Bool → Bool
 sameBool true b = b
 sameBool false true = false
 sameBool false false = true
-
--- Sets of parties have this many places.
-abbrev pub setSize : ℕ
-setSize = 16

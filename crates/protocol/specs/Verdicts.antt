@@ -6,11 +6,12 @@ use mathlib.Core.Bool.{Bool, true, false, cond, not, _&&_, _||_}
 use mathlib.Core.List.{List, [], _∷_}
 use Rattle.protocol.specs.State.{Held, Paid, Back, isVacant, isHeld, isPaid, Escrow, Transaction, Open, Key, Refund, legOf, Line, Run, conforming, openEnd, keyEnd, refundTick}
 use Rattle.protocol.specs.Stocks.{Stock, refuses, deposit, release}
-use Rattle.protocol.specs.Tables.{put, allBelow, someBelow, isSome, sameList, setSize}
+use Rattle.protocol.specs.Tables.{put, allBelow, someBelow, isSome, sameList}
 use Rattle.std.specs.declared.option.Option.{Option}
 use Rattle.std.specs.declared.option.Option.the-variants.{Some, None}
 use Rattle.swap.specs.Routes.{mem, last}
 use Rattle.swap.specs.Swaps.{Swap}
+use Rattle.swap.specs.Limits.{setBits}
 
 -- The first test that holds tells its number; 0 if none does.
 unfoldable pub firstOf : List (Bool × ℕ) → ℕ
@@ -36,7 +37,7 @@ isRoute (Some q) r = sameList q r
 
 -- every lock of the set is opened
 unfoldable pub allOpened : (ℕ → Bool) → (ℕ → Option (List ℕ)) → Bool
-allOpened locks opened = allBelow setSize (λ q. not (locks q) || isSome (opened q))
+allOpened locks opened = allBelow setBits (λ q. not (locks q) || isSome (opened q))
 
 module _ (p : Swap) where
   unfoldable pub pays : ℕ → ℕ → Bool
@@ -54,7 +55,7 @@ module _ (p : Swap) where
 
   -- locks are leaders, and there is one
   unfoldable pub properLocks : (ℕ → Bool) → Bool
-  properLocks locks = someBelow setSize locks && allBelow setSize (λ q. not (locks q) || p .leader q)
+  properLocks locks = someBelow setBits locks && allBelow setBits (λ q. not (locks q) || p .leader q)
 
   -- what speaks against a transaction at tick t, in the order in which it is told
   abbrev pub tests : ℕ → (ℕ → ℕ → Option (List ℕ)) → Stock → ℕ → Transaction → Escrow → List (Bool × ℕ)

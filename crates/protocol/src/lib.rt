@@ -2,6 +2,7 @@
 // Each function does nothing: its contract is a theorem, so that the check asks for its proof.
 ghost use Rattle.protocol.specs.Agree.{BooksAgree};
 ghost use Rattle.protocol.specs.Law.{Law, Histories, Total, Single, Tests, Rules, Begins, Nevers, Pools, Holdings};
+ghost use Rattle.protocol.specs.Pools.{PoolsAgree, TicksFollow};
 ghost use Rattle.swap.specs.Swaps.{Swap};
 
 // After every call the promises hold: if all conform each leg is paid in full; a conforming party that paid has been paid in
@@ -39,4 +40,10 @@ pub fn nothing_is_refused()
 // The model moves assets as the books do.
 pub fn books_agree()
     ensures { λ _. ⌜ BooksAgree ⌝ }
+{}
+
+// The model's mempool is every mempool, and the run after a tick follows from what was handed out, in that order.
+pub fn mempools_agree()
+    ensures submits { λ _. ⌜ PoolsAgree ⌝ }
+    ensures ticks { λ _. ⌜ TicksFollow ⌝ }
 {}

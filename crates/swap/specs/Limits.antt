@@ -42,3 +42,6 @@ outsiderLines = 512
 
 abbrev pub maxLines : ℕ
 maxLines = outsiderLines + 2 * maxLegs + maxLegs * maxParties
+
+abbrev pub setBits : ℕ
+setBits = 16

@@ -28,3 +28,5 @@ pub const COIN_CEILING: u32 = MAX_PARTIES as u32 * MAX_COINS;
 pub const OUTSIDER_LINES: usize = 512;
 
 pub const MAX_LINES: usize = OUTSIDER_LINES + 2 * MAX_LEGS + MAX_LEGS * MAX_PARTIES as usize;
+// places of a party set
+pub const SET_BITS: u8 = 16;

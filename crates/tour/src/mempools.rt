@@ -78,6 +78,36 @@ fn deliver<M: Mempool>(rt: &LibcRuntime, pool: &mut M, tick: u32) -> Result<(), 
     Ok(())
 }
 
+// As many as may wait, and then one more, twice.
+fn fill<M: Mempool>(rt: &LibcRuntime, pool: &mut M) -> Result<(), AnyError> {
+    let filer = 3;
+    let tick = 6;
+    let mut accepted = 0u32;
+    for number in 0..MAX_LINES as u32 {
+        if pool.submit(Waiting {
+                number,
+                filer,
+                tick,
+            })
+            .is_ok() {
+            accepted = accepted.saturating_add(1);
+        }
+    }
+    println!(rt, "{accepted} more: accepted")?;
+    for number in [1000, 0] {
+        offer(
+            rt,
+            pool,
+            Waiting {
+                number,
+                filer,
+                tick,
+            },
+        )?;
+    }
+    Ok(())
+}
+
 // Some transactions, what is handed out at each tick, and then as many as may wait. In the end none waits.
 fn rehearse<M: Mempool>(rt: &LibcRuntime, pool: &mut M) -> Result<(), AnyError>
     ensures { λ r. ⌜ made r (λ _. M·Mempool .waiting (now (pool .exit)) ≡ []) ⌝ }
@@ -88,36 +118,7 @@ fn rehearse<M: Mempool>(rt: &LibcRuntime, pool: &mut M) -> Result<(), AnyError>
     for tick in 2..6 {
         deliver(rt, pool, tick)?;
     }
-    let mut accepted = 0u32;
-    for number in 0..MAX_LINES as u32 {
-        if pool.submit(Waiting {
-                number,
-                filer: 3,
-                tick: 6,
-            })
-            .is_ok() {
-            accepted = accepted.saturating_add(1);
-        }
-    }
-    println!(rt, "{accepted} more: accepted")?;
-    offer(
-        rt,
-        pool,
-        Waiting {
-            number: 1000,
-            filer: 3,
-            tick: 6,
-        },
-    )?;
-    offer(
-        rt,
-        pool,
-        Waiting {
-            number: 0,
-            filer: 3,
-            tick: 6,
-        },
-    )?;
+    fill(rt, pool)?;
     pool.clear();
     println!(rt, "cleared")?;
     Ok(())

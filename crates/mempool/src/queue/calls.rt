@@ -85,7 +85,7 @@ impl Queue {
         Some(best)
     }
 
-    pub fn remove(&mut self, at: usize) -> Waiting
+    pub(crate) fn remove(&mut self, at: usize) -> Waiting
         requires { ⌜ at < length (queued (now self)) ⌝ }
         ensures value { λ r. ⌜ ((d : Waiting) → r ≡ getD (queued (now (self .entry))) at d) ⌝ }
         ensures taken { λ r. ⌜ Taken r (queued (now (self .entry))) (queued (now (self .exit))) ⌝ }
