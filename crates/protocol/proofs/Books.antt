@@ -9,7 +9,7 @@ use native.Mathlib.Omega.{arith}
 use Rattle.protocol.proofs.Basics.{Fails, put-case}
 use Rattle.protocol.proofs.Invariants.{Signed, Fair, Books, gone, come}
 use Rattle.protocol.proofs.Sums.{sum-put}
-use Rattle.swap.proofs.Sums.{sum-zero, sum-le, sum-front, sum-term, sum-less}
+use Rattle.swap.proofs.Sums.{sum-zero, sum-le, sum-term, sum-less}
 use Rattle.protocol.specs.Calls.{fresh}
 use Rattle.protocol.specs.Promises.{spent, fallen}
 use Rattle.protocol.specs.State.{Phase, Vacant, Held, Paid, Back, isVacant, isHeld, isPaid, Escrow, Transaction, Open, Key, Refund, legOf, Run, stands}
@@ -20,8 +20,8 @@ use Rattle.std.proofs.shelf.Tests.{eqb-true, eqb-false, eq-eqb, ne-eqb, ltb-tru
 use Rattle.std.specs.declared.option.Option.{Option}
 use Rattle.std.specs.declared.option.Option.the-variants.{Some}
 use Rattle.swap.specs.Assets.{worth, holdsCoins, assetOn, coinAsset, titleAsset}
-use Rattle.swap.specs.Limits.{titles, fileLedgers, maxCoins}
-use Rattle.swap.specs.Swaps.{Swap, Sound, start, ceiling, sumBelow}
+use Rattle.swap.specs.Limits.{titles, maxCoins}
+use Rattle.swap.specs.Swaps.{Swap, Sound, start, sumBelow}
 use Rattle.swap.specs.declared.records.Holder.the-variants.{Party}
 use Rattle.swap.specs.declared.records.Holder.the-variants.{Escrow as Account}
 
@@ -48,7 +48,7 @@ safe p r b v none l u =
     omega arith
 
 -- An asset is so many of its unit.
-worth-unit : (l a : ℕ) → worth l a (unitOf l a) ≡ amountOf l a
+pub worth-unit : (l a : ℕ) → worth l a (unitOf l a) ≡ amountOf l a
 worth-unit l a = go (holdsCoins l)
   where
     go : (b : Bool) → cond b (cond (eqb (cond b 0 a) 0) a 0) (cond (eqb (cond b 0 a) a) 1 0) ≡ cond b a 1
@@ -85,14 +85,6 @@ full p sound escrow stock b i h held on =
     let e = b .accounts i l (unitOf l a) h in
     let c = cond-true (eqb l l && isHeld (escrow i .phase)) (worth l a (unitOf l a)) 0 (rw held (rw (eq-eqb l l refl) refl)) in
     let w = worth-unit l a in
-    omega arith
-
--- The books never refuse an accepted plan's holdings.
-pub fitting : (p : Swap) → Sound p → (k l u : ℕ) → k < p .holdings → l < fileLedgers
-    → sumBelow (suc k) (λ j. cond (eqb (p .heldOn j) l) (worth l (p .held j) u) 0) ≤ ceiling l
-fitting p sound k l u h low =
-    let t = sum-front (suc k) (p .holdings) (λ j. cond (eqb (p .heldOn j) l) (worth l (p .held j) u) 0) h in
-    let f = sound .fits l u low in
     omega arith
 
 -- Moves
@@ -161,7 +153,7 @@ release-other L i P s k l u ne = rw (ne-eqb k i ne) (no-change (eqb l L) (s l (A
 
 -- The start
 
-entered-party : (p : Swap) (v l u k : ℕ)
+pub entered-party : (p : Swap) (v l u k : ℕ)
     → entered p k l (Party v) u ≡ sumBelow k (λ j. cond (eqb (p .holder j) v && eqb (p .heldOn j) l) (worth l (p .held j) u) 0)
 unfolding entered
 entered-party p v l u zero = refl
@@ -169,7 +161,7 @@ entered-party p v l u (suc k) =
     credit-party (p .heldOn k) (p .holder k) (p .held k) (entered p k) v l u
     ∙ ap (λ x. x + cond (eqb (p .holder k) v && eqb (p .heldOn k) l) (worth l (p .held k) u) 0) (entered-party p v l u k)
 
-entered-account : (p : Swap) (i l u k : ℕ) → entered p k l (Account i) u ≡ 0
+pub entered-account : (p : Swap) (i l u k : ℕ) → entered p k l (Account i) u ≡ 0
 unfolding entered
 entered-account p i l u zero = refl
 entered-account p i l u (suc k) = credit-account (p .heldOn k) (p .holder k) (p .held k) (entered p k) i l u ∙ entered-account p i l u k

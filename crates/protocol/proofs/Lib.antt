@@ -8,6 +8,7 @@ pub mod Filing
 pub mod Alter
 pub mod Delivery
 pub mod Books
+pub mod Holdings
 pub mod Keeps
 pub mod Routes
 pub mod Complete

@@ -1,25 +1,25 @@
 -- What is proved of the protocol.
-use Prim.Native.Nat.{ℕ, suc, _≤_, _<_}
-use lib.Dec.{eqb}
+use Prim.Native.Nat.{ℕ, _≤_, _<_}
 use lib.ListN.{length}
-use mathlib.Core.Bool.{Bool, true, false, cond}
+use mathlib.Core.Bool.{Bool, true, false}
 use mathlib.Core.List.{List, map, []}
 use mathlib.Core.Path.{_≡_}
+use Rattle.ledgers.specs.Calls.{creditVerdict, releaseVerdict}
+use Rattle.protocol.specs.Agree.{rulesOf}
 use Rattle.protocol.specs.Calls.{fresh, Call, load, submit, tick′, Answer, Ticked, Answered, Reached, History}
 use Rattle.protocol.specs.Pool.{accepts}
 use Rattle.protocol.specs.Promises.{Promises, Final}
 use Rattle.protocol.specs.State.{Held, Escrow, Open, Run, State, running, conforming, stands, enteringStand, idle}
 use Rattle.protocol.specs.Steps.{Entering, Leaving, Rested, Steps}
-use Rattle.protocol.specs.Stocks.{content}
+use Rattle.protocol.specs.Stocks.{content, entered}
 use Rattle.protocol.specs.Verdicts.{joined, properLocks, judged, pending}
 use Rattle.std.specs.declared.option.Option.the-variants.{Some, None}
 use Rattle.std.specs.declared.result.Result.the-variants.{Ok, Err}
 use Rattle.std.specs.shelf.Lists.{All}
-use Rattle.swap.specs.Assets.{worth}
-use Rattle.swap.specs.Limits.{fileLedgers, maxLines, maxParties, setBits}
+use Rattle.swap.specs.Limits.{maxLines, maxParties, setBits}
 use Rattle.swap.specs.Routes.{mem, distinct, Joined}
 use Rattle.swap.specs.Sets.{Exactly}
-use Rattle.swap.specs.Swaps.{Swap, Sound, Pays, start, sumBelow, ceiling}
+use Rattle.swap.specs.Swaps.{Swap, Sound, Pays, start}
 use Rattle.swap.specs.declared.records.Holder.the-variants.{Party}
 use Rattle.swap.specs.declared.records.Waiting.{Waiting}
 
@@ -92,6 +92,9 @@ pub record Never (p : Swap) (r : Run) : Type 0 where
       → conforming p (r .line n .filer) ≡ true → r .line n .transaction ≡ Open i asset locks → judged p r (r .line n) ≡ 0
   -- a release never meets an empty account
   pub full : (i : ℕ) → i < p .legs → r .escrow i .phase ≡ Held → 0 < content (p .ledger i) (r .stock) i
+  -- so the book accepts it, to whichever party it goes
+  pub released : (i v : ℕ) → i < p .legs → v < p .parties → r .escrow i .phase ≡ Held
+      → releaseVerdict (rulesOf (p .ledger i)) i v (r .stock (p .ledger i)) ≡ Ok tt
   -- the journal never overflows
   pub room : r .count ≤ maxLines
 
@@ -109,7 +112,7 @@ pub record Waits (r : Run) (ws : List Waiting) : Type 0 where
 abbrev pub Pools : Type 0
 Pools = (p : Swap) (r : Run) (ws : List Waiting) → Reached (running p r ws) → Waits r ws
 
--- The books never refuse an accepted plan's holdings: with each one more, no ceiling is passed.
+-- The books never refuse an accepted plan's holdings: entered one after another, each is accepted by the book of its ledger.
 abbrev pub Holdings : Type 0
-Holdings = (p : Swap) → Sound p → (k l u : ℕ) → k < p .holdings → l < fileLedgers
-    → sumBelow (suc k) (λ j. cond (eqb (p .heldOn j) l) (worth l (p .held j) u) 0) ≤ ceiling l
+Holdings = (p : Swap) → Sound p → (k : ℕ) → k < p .holdings
+    → creditVerdict (rulesOf (p .heldOn k)) (p .holder k) (p .held k) (entered p k (p .heldOn k)) ≡ Ok tt

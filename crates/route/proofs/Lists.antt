@@ -10,7 +10,8 @@ use mathlib.Core.Path.{_≡_, refl, sym, ap, _∙_}
 use native.Mathlib.Omega.{arith}
 use Rattle.route.specs.Views.{proper, firstOf, lastOf, suffix}
 use Rattle.std.proofs.shelf.Elements.{has-from-contains}
-use Rattle.std.proofs.shelf.Lists.{getD-take, length-take-le, length-drop, drop-all, at-drop-more, take-more, take-more-set}
+use Rattle.std.proofs.shelf.Lists.{getD-take, getD-drop, length-take-le, length-drop, drop-all, at-drop-more, take-more, take-more-set}
+use Rattle.std.proofs.shelf.Parts.{between-is}
 use Rattle.std.proofs.shelf.Tests.{and-parts, and-from, leb-true, le-leb, both-ways, cond-true, cond-false, cases-bool, not-from-true, eq-eqb, ne-eqb}
 use Rattle.std.proofs.shelf.Ways.{decides-by-or, decides-like, decides-eqb, same-from-decides}
 use Rattle.std.specs.Orderings.{Decides}
@@ -61,6 +62,18 @@ pub shifted : (p i d : ℕ) (xs ys : List ℕ) → i < length xs → i + 1 < len
 shifted p i d xs ys l m e =
     take-more-set ys (i + 1) (getD xs i d) m ∙ ap (λ zs. zs ++ getD xs i d ∷ []) e ∙ ap (λ zs. p ∷ zs) (sym (take-more xs i d l))
 
+-- one more party copied from the place n on
+pub copied : (n i d : ℕ) (xs ys : List ℕ) → n + i < length xs → i < length ys
+    → take i ys ≡ take i (drop n xs) → take (i + 1) (set ys i (getD xs (n + i) d)) ≡ take (i + 1) (drop n xs)
+copied n i d xs ys l m e =
+    take-more-set ys i (getD xs (n + i) d) m
+    ∙ ap (λ zs. zs ++ getD xs (n + i) d ∷ []) e
+    ∙ ap (λ x. take i (drop n xs) ++ x ∷ []) (sym (getD-drop n xs i d))
+    ∙ sym (take-more (drop n xs) i d (simp length-drop (omega arith)))
+
+pub all-copied : (n m i : ℕ) (xs ys : List ℕ) → i ≡ m - n → take i ys ≡ take i (drop n xs) → take (m - n) ys ≡ drop n (take m xs)
+all-copied n m i xs ys k e = rw k at e ∙ between-is xs n m
+
 -- what makes a list a route
 proper-is : (ps : List ℕ) → Decides (proper ps) ((1 ≤ length ps) × (length ps ≤ maxParties) × (distinct ps ≡ true))
 proper-is ps = (
@@ -99,13 +112,6 @@ module _ (ps : List ℕ) where
   before i qs h l e =
       let k : i ≡ suc (i - 1) = omega arith in
       ap (λ r. getD ps (i - 1) 0 ∷ r) (e ∙ ap (λ n. drop n ps) k) ∙ sym (drop-cons ps (i - 1) 0 (omega arith))
-
-  -- the rest of a route is a route
-  pub rest : (i : ℕ) → length ps ≤ maxParties → distinct ps ≡ true → i < length ps
-      → cond (proper (drop i ps)) (Some (drop i ps)) None ≡ Some (drop i ps)
-  rest i h d l =
-      cond-true (proper (drop i ps)) (Some (drop i ps)) None
-      (proper-is (drop i ps) .1 (simp length-drop (omega arith), simp length-drop (omega arith), distinct-drop i ps d))
 
   pub suffix-here : (p i : ℕ) → i < length ps → getD ps i 0 ≡ p → suffix p (drop i ps) ≡ Some (drop i ps)
   suffix-here p i l e = rw (drop-cons ps i 0 l) (cond-true (eqb p (getD ps i 0)) _ _ (eq-eqb _ _ (sym e)))

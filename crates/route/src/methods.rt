@@ -1,4 +1,4 @@
-ghost use lib.ListN.{length};
+ghost use lib.ListN.{length, drop};
 ghost use mathlib.Core.Bool.{false, cond};
 ghost use mathlib.Core.List.{[], _∷_};
 ghost use mathlib.Core.Path.{_≡_};
@@ -99,10 +99,23 @@ impl Route {
         let parties = self.parties();
         for (i, p) in parties.iter().enumerate() {
             if *p == party {
-                return Route::from_parties(&parties[i..]);
+                return Some(self.suffix_at(i));
             }
         }
         None
+    }
+
+    // The part of the route from a place to its end.
+    fn suffix_at(&self, place: usize) -> Route
+        requires { ⌜ place < now self .len ⌝ }
+        ensures { λ r. ⌜ partiesOf r ≡ drop place (partiesOf (now (self .entry))) ⌝ }
+    {
+        let mut parties = [0; ROOM];
+        let len = self.len - place;
+        for i in 0..len {
+            parties[i] = self.parties[place + i];
+        }
+        Route { parties, len }
     }
 }
 

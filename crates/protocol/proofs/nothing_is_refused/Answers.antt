@@ -1,5 +1,6 @@
+use Rattle.protocol.proofs.Holdings.{holdings}
 use Rattle.protocol.proofs.Law.{begins-with}
-use Rattle.protocol.proofs.Nevers.{nevers, holdings, pools}
+use Rattle.protocol.proofs.Nevers.{nevers, pools}
 use Rattle.protocol.proofs.nothing_is_refused.Needs as need
 
 pub returns : need.returns
