@@ -98,7 +98,7 @@ module _ (legs : List Leg) (n : ℕ) where
           free = free-both (p ∷ c .0) (cycle-within p (c .0) (c .1)) (c .2);
         }
 
-    pub led : ((q : ℕ) → q < n → Round (Pays legs) f q → ⊥) → Led (Among n legs) out
+    pub led : ((q : ℕ) → q < n → Round (Pays legs) f q → ⊥) → Led (Among n legs) (member out)
     led h x r c = go (leader (x ∷ r))
       where
         leader : (s : List ℕ) → ((p : ℕ) × (mem p s ≡ true) × (member out p ≡ true)) ⊎ All (λ q. member out q ≡ false) s

@@ -11,6 +11,7 @@ use Rattle.std.specs.shelf.Lists.{All}
 use Rattle.swap.specs.Limits.{maxParties}
 use Rattle.swap.specs.Routes.{mem, last, Joined, Reaches, Cycle, Span}
 use Rattle.swap.specs.Sets.{member}
+pub use Rattle.swap.specs.Routes.{Connected, Led}
 pub use Rattle.swap.specs.Views.{legAt}
 use Rattle.swap.specs.declared.records.Leg.{Leg}
 
@@ -41,19 +42,11 @@ pub record Spanned (P : ℕ → ℕ → Type 0) (n w : ℕ) : Type 0 where
   pub some : 1 ≤ n → Span P n w
   pub none : n ≡ 0 → w ≡ 0
 
--- any party reaches any other
-abbrev pub Connected : (ℕ → ℕ → Type 0) → ℕ → Type 0
-Connected P n = (x y : ℕ) → x < n → y < n → Reaches P x y
-
 -- Party p is the lowest that party 0 does not reach or that does not reach party 0.
 pub record CutOff (P : ℕ → ℕ → Type 0) (n p : ℕ) : Type 0 where
   pub exists : p < n
   pub apart : (Reaches P 0 p → ⊥) ⊎ (Reaches P p 0 → ⊥)
   pub lowest : (q : ℕ) → q < p → Reaches P 0 q × Reaches P q 0
-
--- Every cycle holds a leader.
-abbrev pub Led : (ℕ → ℕ → Type 0) → ℕ → Type 0
-Led P leaders = (x : ℕ) (r : List ℕ) → Cycle P x r → (p : ℕ) × (mem p (x ∷ r) ≡ true) × (member leaders p ≡ true)
 
 -- Party p is on a cycle that holds no leader.
 pub record Leaderless (P : ℕ → ℕ → Type 0) (leaders p : ℕ) : Type 0 where
@@ -74,7 +67,7 @@ abbrev pub Connects : (ℕ → ℕ → Type 0) → ℕ → Option ℕ → Type 0
 Connects P n r = Cases r (Connected P n) (CutOff P n)
 
 abbrev pub Leads : (ℕ → ℕ → Type 0) → ℕ → ℕ → Option ℕ → Type 0
-Leads P n leaders r = Cases r (Led P leaders) (Unled P n leaders)
+Leads P n leaders r = Cases r (Led P (member leaders)) (Unled P n leaders)
 
 -- every leg is between two of the n parties
 abbrev pub Inside : ℕ → List Leg → Type 0

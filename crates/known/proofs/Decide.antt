@@ -94,7 +94,7 @@ module _ (legs : List Leg) (n : ℕ) where
           most (x ∷ []) j = one
           most (x ∷ (y ∷ r)) j = leb-true (length (x ∷ y ∷ r)) w (of-all (λ r. leb (length r) w) t x (y ∷ r) (pays-below x y (j .0)) j)
 
-      leads : (leaders : ℕ) → passes legs n k (ledCycle legs leaders) ≡ true → Led (Pays legs) leaders
+      leads : (leaders : ℕ) → passes legs n k (ledCycle legs leaders) ≡ true → Led (Pays legs) (member leaders)
       leads leaders t x r c =
           let h = first x r c in
           led-on leaders (x ∷ r)

@@ -7,6 +7,7 @@ use Rattle.std.specs.declared.option.Option.the-variants.{Some, None}
 use Rattle.std.specs.declared.result.Result.{Result}
 use Rattle.std.specs.declared.result.Result.the-variants.{Ok, Err}
 use Rattle.swap.specs.Routes.{Span}
+use Rattle.swap.specs.Sets.{member}
 use Rattle.swap.specs.declared.faults.Fault.{Fault}
 use Rattle.swap.specs.declared.faults.Reason.{Reason}
 use Rattle.swap.specs.declared.faults.Reason.the-variants.{NotCovered, NotConnected, NoLeader}
@@ -25,7 +26,7 @@ module _ (terms : Terms) (holdings : List Holding) (legs : List Leg) where
   Joins = Connected (Pays legs) (terms .parties)
 
   abbrev pub Leads : Type 0
-  Leads = Led (Pays legs) (terms .leaders .bits)
+  Leads = Led (Pays legs) (member (terms .leaders .bits))
 
   -- every leg is covered, every party reaches every other, every cycle holds a leader; and this is the span
   pub record Accepted (span : ℕ) : Type 0 where

@@ -3,6 +3,7 @@ use Prim.Native.Nat.{ℕ, zero, suc, _+_}
 use lib.Dec.{eqb}
 use mathlib.Core.Bool.{Bool, true, false, cond, _&&_, _||_}
 use mathlib.Core.List.{List, [], _∷_}
+pub use Rattle.std.specs.Options.{isSome}
 use Rattle.std.specs.declared.option.Option.{Option}
 use Rattle.std.specs.declared.option.Option.the-variants.{Some, None}
 
@@ -36,10 +37,6 @@ orElse None o = o
 unfoldable pub lowest : {X : Type 0} → ℕ → (ℕ → Option X) → Option X
 lowest zero f = None
 lowest (suc n) f = orElse (lowest n f) (f n)
-
-abbrev pub isSome : {X : Type 0} → Option X → Bool
-isSome (Some x) = true
-isSome None = false
 
 abbrev pub sameList : List ℕ → List ℕ → Bool
 sameList [] [] = true

@@ -9,7 +9,9 @@ use Rattle.protocol.specs.Stocks.{Stock, refuses, deposit, release}
 use Rattle.protocol.specs.Tables.{put, allBelow, someBelow, isSome, sameList}
 use Rattle.std.specs.declared.option.Option.{Option}
 use Rattle.std.specs.declared.option.Option.the-variants.{Some, None}
-use Rattle.swap.specs.Routes.{mem, last}
+use Rattle.swap.specs.Routes.{mem}
+-- the last party of a route: its lock is the one that the key opens
+pub use Rattle.swap.specs.Routes.{lastOf as ends}
 use Rattle.swap.specs.Swaps.{Swap}
 use Rattle.swap.specs.Limits.{setBits}
 
@@ -25,11 +27,6 @@ pending = 255
 abbrev pub begins : ℕ → List ℕ → Bool
 begins x [] = false
 begins x (y ∷ r) = eqb x y
-
--- the last party of a route: its lock is the one that the key opens
-abbrev pub ends : List ℕ → ℕ
-ends [] = 0
-ends (x ∷ r) = last x r
 
 abbrev pub isRoute : Option (List ℕ) → List ℕ → Bool
 isRoute None r = false

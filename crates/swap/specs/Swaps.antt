@@ -2,11 +2,10 @@
 use Prim.Native.Nat.{ℕ, zero, suc, _+_, _≤_, _<_}
 use lib.Dec.{eqb}
 use mathlib.Core.Bool.{Bool, true, cond, _&&_}
-use mathlib.Core.List.{List, _∷_}
 use mathlib.Core.Path.{_≡_}
 use Rattle.swap.specs.Assets.{worth, holdsCoins, assetOn}
 use Rattle.swap.specs.Limits.{minParties, maxParties, maxLegs, maxHoldings, maxDelta, fileLedgers, coinCeiling}
-use Rattle.swap.specs.Routes.{mem, Reaches, Cycle, Span}
+use Rattle.swap.specs.Routes.{Connected, Led, Span}
 
 pub record Swap : Type 0 where
   pub number : ℕ
@@ -65,9 +64,9 @@ pub record Sound (s : Swap) : Type 0 where
   pub assets : (i : ℕ) → i < s .legs → (s .ledger i < fileLedgers) × (assetOn (s .ledger i) (s .asset i) ≡ true)
   pub holders : (k : ℕ) → k < s .holdings → (s .holder k < s .parties) × (s .heldOn k < fileLedgers) × (assetOn (s .heldOn k) (s .held k) ≡ true)
   -- any two parties are joined by a route
-  pub connected : (x y : ℕ) → x < s .parties → y < s .parties → Reaches (Pays s) x y
+  pub connected : Connected (Pays s) (s .parties)
   -- every cycle holds a leader
-  pub led : (x : ℕ) (r : List ℕ) → Cycle (Pays s) x r → (p : ℕ) × (mem p (x ∷ r) ≡ true) × (s .leader p ≡ true)
+  pub led : Led (Pays s) (s .leader)
   pub spanned : Span (Pays s) (s .parties) (s .span)
   -- each party holds what its legs pay
   pub covered : (p l u : ℕ) → owed s p l u ≤ start s p l u
