@@ -1,17 +1,17 @@
 -- The known files.
-use Prim.Native.Nat.{ℕ, _+_, _*_, _^_, _≤_, _<_}
+use Prim.Native.Nat.{ℕ, _+_, _*_, _^_}
 use lib.Dec.{eqb, leb, ltb}
 use lib.ListN.{length, take}
-use mathlib.Core.Bool.{Bool, true, false, not, _&&_, _||_}
+use mathlib.Core.Bool.{Bool, true, false, not, _&&_}
 use mathlib.Core.List.{List, [], _∷_, _++_}
-use mathlib.Core.Logic.{inl, inr, ⊎-elim}
+use mathlib.Core.Logic.{inl, inr}
 use mathlib.Core.Path.{_≡_, refl, subst}
 use native.Mathlib.Omega.{arith}
 use Rattle.filerules.specs.Said.{Said, start, put, faultOf}
-use Rattle.graph.specs.Graphs.{Pays, Connected, Leaderless, Unled, CutOff}
-use Rattle.known.proofs.Decide.{allBelow, accepts, accepted, covered-by, connects, inside, of-all, joins}
-use Rattle.known.proofs.Levels.{level, none, met, passes}
-use Rattle.known.specs.Results.{Outcome, Gives, two, heading42, ring, star, chain}
+use Rattle.graph.specs.Graphs.{Pays}
+use Rattle.known.proofs.Decide.{accepts, accepted, covered-by, connects, of-all, joins}
+use Rattle.known.proofs.Levels.{none}
+use Rattle.known.specs.Results.{Gives, two, heading42, ring, star, chain}
 use Rattle.known.specs.Results as results
 use Rattle.plan.specs.Check.{fault, unled, cutOff}
 use Rattle.plan.specs.Meaning.{Means, swapIn}
@@ -19,15 +19,15 @@ use Rattle.records.specs.Reading.{short}
 use Rattle.records.specs.Records.{encode, Fits}
 use Rattle.records.specs.declared.record.Statement.{Statement}
 use Rattle.records.specs.declared.record.Statement.the-variants as states
-use Rattle.std.proofs.shelf.Tests.{and-parts, leb-true, ltb-true, both-ways, and-from, eq-eqb, not-true}
+use Rattle.std.proofs.shelf.Tests.{and-parts, leb-true, ltb-true, both-ways, eq-eqb, not-true}
 use Rattle.std.specs.declared.option.Option.{Option}
 use Rattle.std.specs.declared.option.Option.the-variants.{Some, None}
-use Rattle.std.specs.declared.result.Result.the-variants.{Ok, Err}
-use Rattle.std.specs.shelf.Lists.{joined, All}
+use Rattle.std.specs.declared.result.Result.the-variants.{Ok}
+use Rattle.std.specs.shelf.Lists.{joined}
 use Rattle.swap.specs.Limits.{maxFile}
-use Rattle.swap.specs.Routes.{last, Joined, Reaches}
+use Rattle.swap.specs.Routes.{last, Reaches}
 use Rattle.swap.specs.declared.faults.Reason.the-variants.{CutShort, NoLeader, NotConnected}
-use Rattle.swapfile.specs.Files.{Content, whole, after, Lawful, Sized, Answer, unread}
+use Rattle.swapfile.specs.Files.{Content, whole, after, Lawful, Answer, unread}
 
 -- each field fits its bytes, as a test
 abbrev pub fits : Statement → Bool

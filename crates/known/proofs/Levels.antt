@@ -1,19 +1,19 @@
 -- All joined routes of a small plan, level by level: a test that holds of each one computed holds of each one there is.
-use Prim.Native.Nat.{ℕ, zero, suc, _+_, _≤_, _<_}
-use lib.Dec.{eqb, leb}
+use Prim.Native.Nat.{ℕ, zero, suc, _≤_, _<_}
+use lib.Dec.{eqb}
 use lib.ListN.{length}
 use mathlib.Core.Bool.{Bool, true, false, cond, not, _&&_, _||_}
 use mathlib.Core.List.{List, [], _∷_, _++_}
-use mathlib.Core.Logic.{_⊎_, inl, inr, ⊎-elim}
-use mathlib.Core.Path.{_≡_, refl, sym, ap, subst, _∙_}
+use mathlib.Core.Logic.{⊎-elim}
+use mathlib.Core.Path.{_≡_, refl, sym, ap, subst}
 use native.Mathlib.Omega.{arith}
 use Rattle.coverage.proofs.Below.{any-from, any-below}
 use Rattle.coverage.specs.Coverage.{anyBelow}
 use Rattle.graph.specs.Graphs.{Pays}
-use Rattle.std.proofs.shelf.Tests.{and-parts, and-from, both-ways, eq-eqb, not-from-false, cases-eq, eqb-true, not-true, cases-bool, or-cases}
+use Rattle.std.proofs.shelf.Tests.{and-parts, and-from, both-ways, eq-eqb, not-from-false, cases-eq, eqb-true, not-true, or-cases}
 use Rattle.std.proofs.shelf.Elements.{all-append}
 use Rattle.std.specs.shelf.Lists.{All}
-use Rattle.swap.specs.Routes.{mem, last, Joined}
+use Rattle.swap.specs.Routes.{mem, Joined}
 use Rattle.swap.specs.Views.{legAt}
 use Rattle.swap.specs.declared.records.Leg.{Leg}
 

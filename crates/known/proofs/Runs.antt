@@ -7,23 +7,21 @@ use Rattle.filerules.specs.Said.{start}
 use Rattle.known.proofs.Files.{said, lawful, two-records, two-means, ring-means, two-given, headed-given, cut-given, ring-given, star-given, star-refused, chain-refused}
 use Rattle.known.specs.Results.{two, ring, undisturbed, disturbed, lock0, Holds, run, Known}
 use Rattle.plan.proofs.Facts.{means-sound}
-use Rattle.plan.specs.Meaning.{Means, swapIn}
-use Rattle.protocol.proofs.Attained.{attained, fine}
-use Rattle.protocol.specs.Calls.{fresh}
-use Rattle.protocol.specs.Courses.{Delivery, prompt, slow, Example, ends, tickBy, ticksBy, filings}
+use Rattle.plan.specs.Meaning.{swapIn}
+use Rattle.protocol.proofs.Attained.{attained}
+use Rattle.protocol.specs.Courses.{prompt, slow, ends, tickBy, ticksBy, filings}
 use Rattle.protocol.specs.Parties.{enter, openLegs, passKey, refundLegs, shown, relay, opening, revealing, relaying, refunding, turn, turns}
-use Rattle.protocol.specs.State.{Phase, Vacant, Held, Paid, Back, Transaction, Open, Key, Refund, allLeaders, enteringStand}
-use Rattle.protocol.specs.Stocks.{content, entered}
+use Rattle.protocol.specs.State.{Vacant, Held, Paid, Back, Transaction, Open, Key, Refund, allLeaders, enteringStand}
+use Rattle.protocol.specs.Stocks.{refuses, entered}
 use Rattle.protocol.specs.Tables.{put, allBelow, someBelow, countBelow, each, lowest}
 use Rattle.protocol.specs.Verdicts.{firstOf, allOpened, pays, properLocks, judged, deliver, handle}
 use Rattle.records.specs.Records.{encode}
-use Rattle.std.specs.declared.result.Result.the-variants.{Ok}
-use Rattle.std.specs.shelf.Lists.{joined, All}
+use Rattle.std.specs.shelf.Lists.{joined}
 use Rattle.swap.specs.Swaps.{Swap, Sound}
 
 -- all that a run computes with
 computing : Unit {0}
-unfolding ends enter tickBy ticksBy filings openLegs passKey refundLegs shown relay opening revealing relaying refunding turn turns allLeaders enteringStand content entered put allBelow someBelow countBelow each lowest firstOf allOpened pays properLocks judged deliver handle
+unfolding ends enter tickBy ticksBy filings openLegs passKey refundLegs shown relay opening revealing relaying refunding turn turns allLeaders enteringStand refuses entered put allBelow someBelow countBelow each lowest firstOf allOpened pays properLocks judged deliver handle
 computing = tt
 
 abbrev swap-of-two : Swap

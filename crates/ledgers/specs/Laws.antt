@@ -4,9 +4,8 @@ use lib.Dec.{eqb}
 use mathlib.Core.Bool.{cond}
 use mathlib.Core.Path.{_≡_}
 use Rattle.ledgers.specs.Calls.{Answer, Credited, Deposited, Released}
-use Rattle.ledgers.specs.Stocks.{Stock, Rules, Lawful, coinRules, titleRules, total, worth}
+use Rattle.ledgers.specs.Stocks.{Stock, Rules, Lawful, total, worth}
 use Rattle.std.specs.declared.result.Result.the-variants.{Ok, Err}
-use Rattle.swap.specs.Assets.{coinWorth, titleWorth}
 use Rattle.swap.specs.declared.records.Holder.{Holder}
 
 -- what holds if a call was accepted, and what if it was refused
@@ -53,9 +52,3 @@ CreditsRaiseTotals =
     (k : Rules) (ledger party asset : ℕ) (s s′ : Stock)
     → Credited k ledger party asset s (Ok tt) s′
     → (l u : ℕ) → total (s′ l) u ≡ total (s l) u + cond (eqb l ledger) (worth k asset u) 0
-
--- A kind's assets are worth what the swap says they are.
-abbrev pub WorthsAgree : Type 0
-WorthsAgree =
-    ((asset unit : ℕ) → worth coinRules asset unit ≡ coinWorth asset unit)
-    × ((asset unit : ℕ) → worth titleRules asset unit ≡ titleWorth asset unit)

@@ -1,10 +1,10 @@
--- What a book means: its stock, and the rules of the two kinds of asset.
+-- What a book means: its stock.
 use Prim.Native.Nat.{ℕ, _+_, _≤_, _<_}
 use lib.Dec.{eqb, ltb}
 use mathlib.Core.Bool.{Bool, true, false, cond}
 use mathlib.Core.Path.{_≡_}
-use Rattle.swap.specs.Assets.{coinAsset, titleAsset}
-use Rattle.swap.specs.Limits.{bookLedgers, coinCeiling, maxLegs, maxParties, titles}
+pub use Rattle.swap.specs.Assets.{Rules, worth, coinRules, titleRules}
+use Rattle.swap.specs.Limits.{bookLedgers, maxLegs, maxParties}
 use Rattle.swap.specs.Swaps.{sumBelow}
 use Rattle.swap.specs.declared.records.Holder.{Holder}
 use Rattle.swap.specs.declared.records.Holder.the-variants.{Party, Escrow}
@@ -17,28 +17,9 @@ Counts = Holder → ℕ → ℕ
 abbrev pub Stock : Type 0
 Stock = ℕ → Counts
 
--- A kind of asset: which numbers are assets, the one unit that an asset is of and how many of it,
--- how many units there are, and the most of a unit that a ledger takes.
-pub record Rules : Type 0 where
-  pub valid : ℕ → Bool
-  pub unit : ℕ → ℕ
-  pub amount : ℕ → ℕ
-  pub units : ℕ
-  pub ceiling : ℕ
-
 -- every asset is something, of a unit that exists
 abbrev pub Lawful : Rules → Type 0
 Lawful k = (asset : ℕ) → k .valid asset ≡ true → (1 ≤ k .amount asset) × (k .unit asset < k .units)
-
-abbrev pub coinRules : Rules
-coinRules = record { valid = coinAsset; unit = λ _. 0; amount = λ asset. asset; units = 1; ceiling = coinCeiling }
-
-abbrev pub titleRules : Rules
-titleRules = record { valid = titleAsset; unit = λ asset. asset; amount = λ _. 1; units = titles; ceiling = 1 }
-
--- what an asset has of a unit
-abbrev pub worth : Rules → ℕ → ℕ → ℕ
-worth k asset unit = cond (eqb unit (k .unit asset)) (k .amount asset) 0
 
 -- the ranges of a book's numbers
 abbrev pub isLedger : ℕ → Bool

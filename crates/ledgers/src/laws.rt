@@ -1,5 +1,5 @@
 ghost use mathlib.Core.Path.{_≡_};
-ghost use Rattle.ledgers.specs.Laws.{CreditsRaiseTotals, DepositsComeBack, DepositsKeepTotals, ReleasesKeepTotals, PaidThrough, SameTotals, Unmoved, WorthsAgree};
+ghost use Rattle.ledgers.specs.Laws.{CreditsRaiseTotals, DepositsComeBack, DepositsKeepTotals, ReleasesKeepTotals, PaidThrough, SameTotals, Unmoved};
 use crate::books::Ledgers;
 use crate::kinds::Kind;
 use crate::refusals::Refusal;
@@ -14,11 +14,6 @@ pub fn totals_are_kept()
     ensures by_deposits { λ _. ⌜ DepositsKeepTotals ⌝ }
     ensures by_releases { λ _. ⌜ ReleasesKeepTotals ⌝ }
     ensures by_credits { λ _. ⌜ CreditsRaiseTotals ⌝ }
-{}
-
-// The two kinds count as a swap's legs do.
-pub fn worths_agree()
-    ensures { λ _. ⌜ WorthsAgree ⌝ }
 {}
 
 // Pays an asset through an escrow account: from the payer into the account, and on to the receiver.

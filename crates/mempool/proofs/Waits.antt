@@ -1,11 +1,10 @@
 -- Lemmas on what waits.
 use Prim.Native.Nat.{ℕ, zero, suc, _+_, _≤_, _<_}
 use native.Mathlib.Omega.{arith}
-use lib.Dec.{eqb, ltb}
-use lib.ListN.{length, getD, take, drop}
-use mathlib.Core.Bool.{Bool, true, false, _&&_, _||_}
+use lib.ListN.{length, getD, drop}
+use mathlib.Core.Bool.{true, false, _||_}
 use mathlib.Core.List.{List, [], _∷_, _++_}
-use mathlib.Core.Path.{_≡_, refl, sym, ap, subst, _∙_}
+use mathlib.Core.Path.{_≡_, sym, ap, subst, _∙_}
 use Rattle.std.proofs.shelf.Lists.{at-drop-more}
 use Rattle.std.proofs.shelf.Tests.{or-left, or-parts, eq-eqb, ne-eqb, ltb-false}
 use Rattle.std.proofs.shelf.Elements.{all-from-getD, all-weaker}

@@ -1,5 +1,4 @@
 // What holds of every mempool, whatever it hands out.
-ghost use mathlib.Core.Path.{_≡_};
 ghost use Rattle.std.specs.Vec.{made};
 ghost use Rattle.std.specs.shelf.Lists.{All};
 ghost use Rattle.mempool.specs.Calls.{Drained, Fresh};

@@ -6,7 +6,7 @@ use mathlib.Core.Path.{_≡_, refl, sym, subst, subst₂, _∙_, ap}
 use native.Mathlib.Omega.{arith}
 use Rattle.graph.specs.Graphs.{Inside}
 use Rattle.plan.proofs.Facts.{legs-inside, sound, one-meaning}
-use Rattle.plan.specs.Check.{Accepted, Refused, Checked}
+use Rattle.plan.specs.Check.{Checked}
 use Rattle.plan.specs.Meaning.{Means, TheAnswer, swapIn}
 use Rattle.plan.specs.Plans.{Reads}
 use Rattle.plan.specs.declared.plan.Plan.{Plan}
@@ -20,7 +20,6 @@ use Rattle.swap.specs.declared.records.Leg.{Leg}
 use Rattle.swapfile.proofs.Rules.{ruled}
 use Rattle.swapfile.specs.Files.{Content, Answer}
 use Rattle.swapfile.specs.Reads.{Reading}
-use Rattle.swapfile.specs.declared.file.SwapFile.{SwapFile}
 use Rattle.swapfile.specs.declared.refusal.Refusal.{Refusal}
 use Rattle.swapfile.specs.declared.refusal.Refusal.the-variants as refusal
 

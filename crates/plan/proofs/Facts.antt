@@ -1,25 +1,24 @@
 -- An accepted file's plan has the facts that the promises rest on, and no bytes mean two things.
-use Prim.Native.Nat.{ℕ, _≤_, _<_}
+use Prim.Native.Nat.{ℕ, _<_}
 use lib.Dec.{eqb}
 use lib.ListN.{length}
-use mathlib.Core.Bool.{Bool, true, false, cond, _&&_}
+use mathlib.Core.Bool.{Bool, true, false, cond}
 use mathlib.Core.List.{List}
-use mathlib.Core.Logic.{_⊎_, inl, inr, ⊎-elim}
-use mathlib.Core.Path.{_≡_, refl, sym, ap, ap₂, subst, _∙_}
+use mathlib.Core.Logic.{inl, inr}
+use mathlib.Core.Path.{_≡_, sym, ap, ap₂, subst, _∙_}
 use native.Mathlib.Omega.{arith}
 use Rattle.filerules.specs.Said.{clash}
 use Rattle.graph.specs.Graphs.{Inside}
 use Rattle.plan.proofs.Holdings.{legs-covered, holdings-fit}
 use Rattle.plan.proofs.Unique.{checked-one}
-use Rattle.plan.specs.Check.{Accepted, Refused, Checked}
-use Rattle.plan.specs.Meaning.{swapIn, Means, OneMeaning, MeansSound}
+use Rattle.plan.specs.Check.{Accepted, Checked}
+use Rattle.plan.specs.Meaning.{swapIn, OneMeaning, MeansSound}
 use Rattle.std.proofs.shelf.Elements.{all-getD}
-use Rattle.std.proofs.shelf.Tests.{both-ways, eq-eqb, and-from, cond-true, cond-false}
+use Rattle.std.proofs.shelf.Tests.{both-ways, eq-eqb, and-from}
 use Rattle.std.specs.declared.result.Result.{Result}
 use Rattle.std.specs.declared.result.Result.the-variants.{Ok, Err}
 use Rattle.swap.specs.Assets.{holdsCoins}
-use Rattle.swap.specs.Limits.{maxParties}
-use Rattle.swap.specs.Swaps.{Swap, Sound}
+use Rattle.swap.specs.Swaps.{Sound}
 use Rattle.swap.specs.Views.{legAt, holdingAt}
 use Rattle.swap.specs.declared.faults.Fault.{Fault}
 use Rattle.swap.specs.declared.records.Holding.{Holding}

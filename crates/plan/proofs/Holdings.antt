@@ -1,20 +1,20 @@
 -- What coverage and the rules on holdings come to: each party holds what its legs pay, and no ledger is asked for more than it takes.
-use Prim.Native.Nat.{ℕ, zero, suc, _+_, _*_, _≤_, _<_}
-use lib.Dec.{eqb, leb, ltb}
+use Prim.Native.Nat.{ℕ, zero, suc, _≤_, _<_}
+use lib.Dec.{eqb, leb}
 use lib.ListN.{length}
-use mathlib.Core.Bool.{Bool, true, false, cond, not, _&&_}
+use mathlib.Core.Bool.{Bool, true, false, cond, _&&_}
 use mathlib.Core.List.{List}
 use mathlib.Core.Logic.{_⊎_, inl, inr, ⊎-elim}
 use mathlib.Core.Path.{_≡_, refl, sym, ap, subst, subst₂, subst₃, _∙_}
 use native.Mathlib.Nat.{le-trans, le-of-eq}
 use native.Mathlib.Omega.{arith}
 use Rattle.coverage.proofs.Below.{any-below, none-below}
-use Rattle.coverage.specs.Coverage.{covered, coinsHeld, coinsOwed, coinsPaid, coinsOf, holdsTitle, isTitle, namesTitle, names, anyBelow}
+use Rattle.coverage.specs.Coverage.{covered, coinsHeld, coinsOwed, coinsOf, holdsTitle, isTitle, namesTitle, names}
 use Rattle.swap.proofs.Sums.{sum-zero, sum-le, sum-term, sum-swap, sum-most, sum-one}
-use Rattle.std.proofs.shelf.Tests.{cases-eq, cases-bool, eq-eqb, ne-eqb, eqb-true, cond-true, cond-false, and-parts, and-from, and-left, and-right, leb-true, not-true, both-ways}
-use Rattle.swap.specs.Assets.{worth, coinWorth, titleWorth, holdsCoins, coinAsset, titleAsset, assetOn}
+use Rattle.std.proofs.shelf.Tests.{cases-eq, eq-eqb, ne-eqb, eqb-true, cond-true, cond-false, and-parts, and-from, leb-true, not-true, both-ways}
+use Rattle.swap.specs.Assets.{worth, titleRules, rulesIf, rulesOf, holdsCoins, assetOn}
 use Rattle.swap.specs.Limits.{maxParties, maxCoins, coinCeiling}
-use Rattle.swap.specs.Swaps.{sumBelow, owed, start, total, ceiling}
+use Rattle.swap.specs.Swaps.{sumBelow, owed, start, total}
 use Rattle.swap.specs.Views.{legAt, holdingAt, swapOf}
 use Rattle.swap.specs.declared.records.Holding.{Holding}
 use Rattle.swap.specs.declared.records.Leg.{Leg}
@@ -32,6 +32,10 @@ eqb-comm a b =
     (λ e. eq-eqb a b e ∙ sym (eq-eqb b a (sym e)))
     (λ ne. ne-eqb a b ne ∙ sym (ne-eqb b a (λ e. ne (sym e))))
     (cases-eq a b)
+
+nothing : (t : Bool) → _≡_ {A = ℕ} (cond t 0 0) 0
+nothing true = refl
+nothing false = refl
 
 at-most-one : (x y : Bool) → cond x (cond y 1 0) 0 ≤ 1
 at-most-one true true = omega arith
@@ -83,12 +87,12 @@ module _ (holdings : List Holding) (legs : List Leg) (all : (i : ℕ) → i < le
   -- what the first n legs of a party on a title ledger have of a unit, and what it holds
   titlesOwed : ℕ → ℕ → ℕ → ℕ → ℕ
   titlesOwed n p l u =
-      sumBelow n (λ i. cond (eqb (legAt legs i .payer) p && eqb (legAt legs i .ledger) l) (titleWorth (legAt legs i .asset) u) 0)
+      sumBelow n (λ i. cond (eqb (legAt legs i .payer) p && eqb (legAt legs i .ledger) l) (worth titleRules (legAt legs i .asset) u) 0)
 
   titlesHeld : ℕ → ℕ → ℕ → ℕ
   titlesHeld p l u =
       sumBelow (length holdings)
-      (λ k. cond (eqb (holdingAt holdings k .party) p && eqb (holdingAt holdings k .ledger) l) (titleWorth (holdingAt holdings k .asset) u) 0)
+      (λ k. cond (eqb (holdingAt holdings k .party) p && eqb (holdingAt holdings k .ledger) l) (worth titleRules (holdingAt holdings k .asset) u) 0)
 
   -- a title leg is held by its payer, and no earlier leg names it
   title-at : (i : ℕ) → i < length legs → holdsCoins (legAt legs i .ledger) ≡ false →
@@ -109,7 +113,7 @@ module _ (holdings : List Holding) (legs : List Leg) (all : (i : ℕ) → i < le
       (all-kept (eqb (h .party) p) (eqb (h .ledger) l) (eqb (h .asset) u) (r .2)) in
       let m =
       sum-term (length holdings)
-      (λ k. cond (eqb (holdingAt holdings k .party) p && eqb (holdingAt holdings k .ledger) l) (titleWorth (holdingAt holdings k .asset) u) 0)
+      (λ k. cond (eqb (holdingAt holdings k .party) p && eqb (holdingAt holdings k .ledger) l) (worth titleRules (holdingAt holdings k .asset) u) 0)
       (r .0) (r .1) in
       omega arith
 
@@ -121,7 +125,7 @@ module _ (holdings : List Holding) (legs : List Leg) (all : (i : ℕ) → i < le
       let leg = legAt legs i in
       let t = title-at i h k in
       let held = title-held (leg .payer) (leg .ledger) (leg .asset) (t .0) in
-      let f = λ (j : ℕ). cond (eqb (legAt legs j .payer) (leg .payer) && eqb (legAt legs j .ledger) (leg .ledger)) (titleWorth (legAt legs j .asset) (leg .asset)) 0 in
+      let f = λ (j : ℕ). cond (eqb (legAt legs j .payer) (leg .payer) && eqb (legAt legs j .ledger) (leg .ledger)) (worth titleRules (legAt legs j .asset) (leg .asset)) 0 in
       let z =
       sum-zero i f
       (λ j q.
@@ -151,7 +155,7 @@ module _ (holdings : List Holding) (legs : List Leg) (all : (i : ℕ) → i < le
       (cases-eq (legAt legs n .asset) u))
       (λ m.
       let i = titles-covered n p l u (omega arith) k in
-      let z = cond-false (eqb (legAt legs n .payer) p && eqb (legAt legs n .ledger) l) (titleWorth (legAt legs n .asset) u) 0 m in
+      let z = cond-false (eqb (legAt legs n .payer) p && eqb (legAt legs n .ledger) l) (worth titleRules (legAt legs n .asset) u) 0 m in
       omega arith)
       (both (eqb (legAt legs n .payer) p) (eqb (legAt legs n .ledger) l))
 
@@ -159,25 +163,24 @@ module _ (holdings : List Holding) (legs : List Leg) (all : (i : ℕ) → i < le
   pub legs-covered : (number : ℕ) (terms : Terms) (span p l u : ℕ) →
       owed (swapOf number terms holdings legs span) p l u ≤ start (swapOf number terms holdings legs span) p l u
   unfolding titlesOwed titlesHeld
-  legs-covered number terms span p l u = go (holdsCoins l) (eqb u 0) refl refl
+  legs-covered number terms span p l u = go (holdsCoins l) refl
     where
-      share : Bool → Bool → ℕ → ℕ
-      share b c asset = cond b (cond c asset 0) (titleWorth asset u)
-
-      nil : (t : Bool) → _≡_ {A = ℕ} (cond t 0 0) 0
-      nil true = refl
-      nil false = refl
-
-      go : (b c : Bool) → holdsCoins l ≡ b → eqb u 0 ≡ c →
-          sumBelow (length legs) (λ i. cond (eqb (legAt legs i .payer) p && eqb (legAt legs i .ledger) l) (share b c (legAt legs i .asset)) 0)
+      -- c: the unit is that of coins
+      coins : (c : Bool) → holdsCoins l ≡ true →
+          sumBelow (length legs) (λ i. cond (eqb (legAt legs i .payer) p && eqb (legAt legs i .ledger) l) (cond c (legAt legs i .asset) 0) 0)
           ≤ sumBelow (length holdings)
-          (λ k. cond (eqb (holdingAt holdings k .party) p && eqb (holdingAt holdings k .ledger) l) (share b c (holdingAt holdings k .asset)) 0)
-      go true true e f = coins-covered (length legs) p l (omega arith) e
-      go true false e f =
-          let z = sum-zero (length legs) (λ i. cond (eqb (legAt legs i .payer) p && eqb (legAt legs i .ledger) l) 0 0) (λ i h. nil _) in
+          (λ k. cond (eqb (holdingAt holdings k .party) p && eqb (holdingAt holdings k .ledger) l) (cond c (holdingAt holdings k .asset) 0) 0)
+      coins true e = coins-covered (length legs) p l (omega arith) e
+      coins false e =
+          let z = sum-zero (length legs) (λ i. cond (eqb (legAt legs i .payer) p && eqb (legAt legs i .ledger) l) 0 0) (λ i h. nothing _) in
           omega arith
-      go false true e f = titles-covered (length legs) p l u (omega arith) e
-      go false false e f = titles-covered (length legs) p l u (omega arith) e
+
+      go : (b : Bool) → holdsCoins l ≡ b →
+          sumBelow (length legs) (λ i. cond (eqb (legAt legs i .payer) p && eqb (legAt legs i .ledger) l) (worth (rulesIf b) (legAt legs i .asset) u) 0)
+          ≤ sumBelow (length holdings)
+          (λ k. cond (eqb (holdingAt holdings k .party) p && eqb (holdingAt holdings k .ledger) l) (worth (rulesIf b) (holdingAt holdings k .asset) u) 0)
+      go true e = coins (eqb u 0) e
+      go false e = titles-covered (length legs) p l u (omega arith) e
 
 -- The rules on holdings keep every ledger below its ceiling.
 module _
@@ -193,7 +196,7 @@ module _
   -- a holding on a coin ledger is at most the largest
   coin-most : (k : ℕ) → k < length holdings → holdsCoins (holdingAt holdings k .ledger) ≡ true → holdingAt holdings k .asset ≤ maxCoins
   coin-most k h e =
-      let r = sym (cond-true (holdsCoins (holdingAt holdings k .ledger)) (coinAsset (holdingAt holdings k .asset)) (titleAsset (holdingAt holdings k .asset)) e) ∙ ranged k h in
+      let r = sym (ap (λ b. rulesIf b .valid (holdingAt holdings k .asset)) e) ∙ ranged k h in
       leb-true (holdingAt holdings k .asset) maxCoins (and-parts (leb 1 (holdingAt holdings k .asset)) (leb (holdingAt holdings k .asset) maxCoins) r .1)
 
   -- of one party's holdings on a coin ledger only one counts
@@ -233,9 +236,9 @@ module _
       le-trans a (le-trans (le-of-eq b) m)
 
   titles-total : (l u : ℕ) → holdsCoins l ≡ false →
-      sumBelow (length holdings) (λ k. cond (eqb (holdingAt holdings k .ledger) l) (titleWorth (holdingAt holdings k .asset) u) 0) ≤ 1
+      sumBelow (length holdings) (λ k. cond (eqb (holdingAt holdings k .ledger) l) (worth titleRules (holdingAt holdings k .asset) u) 0) ≤ 1
   titles-total l u e =
-      sum-one (length holdings) (λ k. cond (eqb (holdingAt holdings k .ledger) l) (titleWorth (holdingAt holdings k .asset) u) 0) 1
+      sum-one (length holdings) (λ k. cond (eqb (holdingAt holdings k .ledger) l) (worth titleRules (holdingAt holdings k .asset) u) 0) 1
       (λ k h. at-most-one (eqb (holdingAt holdings k .ledger) l) (eqb u (holdingAt holdings k .asset)))
       (λ j k lt h. ⊎-elim
       (λ m. ⊎-elim
@@ -249,22 +252,17 @@ module _
       (counted (eqb (holdingAt holdings j .ledger) l) (eqb u (holdingAt holdings j .asset))))
 
   pub holdings-fit : (number : ℕ) (terms : Terms) (legs : List Leg) (span l u : ℕ) →
-      total (swapOf number terms holdings legs span) l u ≤ ceiling l
-  holdings-fit number terms legs span l u = go (holdsCoins l) (eqb u 0) refl refl
+      total (swapOf number terms holdings legs span) l u ≤ rulesOf l .ceiling
+  holdings-fit number terms legs span l u = go (holdsCoins l) refl
     where
-      share : Bool → Bool → ℕ → ℕ
-      share b c asset = cond b (cond c asset 0) (titleWorth asset u)
-
-      nil : (t : Bool) → _≡_ {A = ℕ} (cond t 0 0) 0
-      nil true = refl
-      nil false = refl
-
-      go : (b c : Bool) → holdsCoins l ≡ b → eqb u 0 ≡ c →
-          sumBelow (length holdings) (λ k. cond (eqb (holdingAt holdings k .ledger) l) (share b c (holdingAt holdings k .asset)) 0)
-          ≤ cond b coinCeiling 1
-      go true true e f = coins-total l e
-      go true false e f =
-          let z = sum-zero (length holdings) (λ k. cond (eqb (holdingAt holdings k .ledger) l) 0 0) (λ k h. nil (eqb (holdingAt holdings k .ledger) l)) in
+      coins : (c : Bool) → holdsCoins l ≡ true →
+          sumBelow (length holdings) (λ k. cond (eqb (holdingAt holdings k .ledger) l) (cond c (holdingAt holdings k .asset) 0) 0) ≤ coinCeiling
+      coins true e = coins-total l e
+      coins false e =
+          let z = sum-zero (length holdings) (λ k. cond (eqb (holdingAt holdings k .ledger) l) 0 0) (λ k h. nothing (eqb (holdingAt holdings k .ledger) l)) in
           omega arith
-      go false true e f = titles-total l u e
-      go false false e f = titles-total l u e
+
+      go : (b : Bool) → holdsCoins l ≡ b →
+          sumBelow (length holdings) (λ k. cond (eqb (holdingAt holdings k .ledger) l) (worth (rulesIf b) (holdingAt holdings k .asset) u) 0) ≤ rulesIf b .ceiling
+      go true e = coins (eqb u 0) e
+      go false e = titles-total l u e

@@ -1,5 +1,5 @@
 -- A content has one answer.
-use Prim.Native.Nat.{ℕ, _≤_, _<_}
+use Prim.Native.Nat.{ℕ, _<_}
 use lib.Dec.{eqb}
 use mathlib.Core.Bool.{true, false}
 use mathlib.Core.List.{List, [], _∷_}
@@ -7,14 +7,14 @@ use mathlib.Core.Logic.{_⊎_, ⊎-elim}
 use mathlib.Core.Path.{_≡_, refl, sym, ap, subst}
 use native.Mathlib.Omega.{arith}
 use Rattle.coverage.specs.Coverage.{Uncovered, covered}
-use Rattle.graph.specs.Graphs.{Pays, Connected, CutOff, Led, Leaderless, Unled}
+use Rattle.graph.specs.Graphs.{Pays, CutOff, Leaderless, Unled}
 use Rattle.plan.specs.Check.{fault, Covered, Joins, Leads, Accepted, Refused, uncovered, cutOff, unled, Checked}
 use Rattle.std.proofs.shelf.Tests.{both-ways, cases-order, eqb-true, or-cases}
-use Rattle.std.specs.declared.option.Option.the-variants.{Some, None}
+use Rattle.std.specs.declared.option.Option.the-variants.{Some}
 use Rattle.std.specs.declared.result.Result.{Result}
 use Rattle.std.specs.declared.result.Result.the-variants.{Ok, Err}
 use Rattle.std.specs.shelf.Lists.{All}
-use Rattle.swap.specs.Routes.{mem, Reaches, Cycle, Span}
+use Rattle.swap.specs.Routes.{mem, Reaches, Span}
 use Rattle.swap.specs.Sets.{member}
 use Rattle.swap.specs.declared.faults.Fault.{Fault}
 use Rattle.swap.specs.declared.faults.Reason.the-variants.{NotCovered, NotConnected, NoLeader}

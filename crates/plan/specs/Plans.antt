@@ -1,7 +1,6 @@
 -- A plan, and what reading one answers.
 use Prim.Native.Nat.{ℕ}
 use mathlib.Core.List.{List}
-use Rattle.plan.specs.Check.{Checked}
 use Rattle.plan.specs.Meaning.{TheAnswer}
 use Rattle.plan.specs.declared.plan.Plan.{Plan}
 use Rattle.std.specs.Of.Vec.{vec-items}

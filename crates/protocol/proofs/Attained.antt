@@ -1,8 +1,9 @@
 -- Calls lead to the runs of the examples.
 use Prim.Native.Nat.{ℕ, zero, suc, _+_, _≤_, _<_}
 use lib.Dec.{eqb, ltb, leb}
+use lib.ListN.{length}
 use mathlib.Core.Bool.{Bool, true, false, cond, not, _&&_}
-use mathlib.Core.List.{List, [], _∷_}
+use mathlib.Core.List.{List, [], _∷_, _++_}
 use mathlib.Core.Logic.{⊎-elim}
 use mathlib.Core.Path.{_≡_, refl, sym, ap, subst, _∙_}
 use native.Mathlib.Omega.{arith}
@@ -11,25 +12,28 @@ use Rattle.protocol.proofs.Basics.{put-case, below, one-if}
 use Rattle.protocol.proofs.Filing.{inv-tick}
 use Rattle.protocol.proofs.Keeps.{inv-steps}
 use Rattle.protocol.proofs.Nevers.{queue-known}
-use Rattle.protocol.proofs.Queue.{Known, times, waits-taken, handle-deliver, delivered, heard-all, Quiet, quiet-inv}
+use Rattle.protocol.proofs.Queue.{Known, times, waits-taken, handle-deliver, Delivered, delivered, heard-all, Quiet, quiet-inv}
 use Rattle.protocol.proofs.Reach.{reached-lasts}
 use Rattle.protocol.proofs.Turns.{each-ind, turned}
-use Rattle.protocol.specs.Calls.{fresh, ticked, over, outsiders, proper, waitingLine, Added, added, Deliveries, handed, Ticked, Call, load, submit, tick′, Answer, refusal, Effect, Settled, Answered, Reached, new, after}
+use Rattle.protocol.specs.Calls.{fresh, ticked, over, outsiders, proper, waitingLine, Added, added, handled, Ticked, Call, load, submit, tick′, Answer, refusal, Effect, Settled, Answered, Reached, new, after}
 use Rattle.protocol.specs.Courses.{Delivery, prompt, slow, hands, tickBy, ticksBy, filings}
 use Rattle.protocol.specs.Law.{Legible, Total}
 use Rattle.protocol.specs.Parties.{file, enter, turns}
-use Rattle.mempool.specs.Calls.{here, later}
-use Rattle.protocol.specs.Pool.{Taken, accepts, Fresh}
+use Rattle.mempool.proofs.Keeping.{drained-push}
+use Rattle.mempool.specs.Calls.{Taken, here, later, Drained, none, Fresh, Submitted, waits}
+use Rattle.mempool.specs.declared.refusal.Refusal.{Refusal}
+use Rattle.mempool.specs.declared.refusal.Refusal.the-variants.{Full, Duplicate}
 use Rattle.protocol.specs.State.{Transaction, legOf, Run, State, idle, running, lastTick}
 use Rattle.protocol.specs.Stocks.{cleared}
 use Rattle.protocol.specs.Tables.{each}
 use Rattle.protocol.specs.Verdicts.{pending, tests, judged, deliver, handle}
 use Rattle.std.proofs.shelf.Elements.{all-weaker}
-use Rattle.std.proofs.shelf.Tests.{cases-eq, and-parts, and-from, cond-false, eqb-true, eq-eqb, ltb-true, lt-ltb, lt-leb, leb-false, leb-true, not-true, both-ways}
-use Rattle.std.specs.Orderings.{When}
+use Rattle.std.proofs.shelf.Tests.{cases-eq, and-parts, and-from, cond-false, eqb-true, eq-eqb, ltb-true, ltb-false, lt-ltb, lt-leb, leb-false, leb-true, not-true, both-ways}
 use Rattle.std.specs.declared.option.Option.{Option}
 use Rattle.std.specs.declared.option.Option.the-variants.{Some, None}
+use Rattle.std.specs.declared.result.Result.{Result}
 use Rattle.std.specs.declared.result.Result.the-variants.{Ok, Err}
+use Rattle.std.specs.shelf.Lists.{All}
 use Rattle.swap.specs.Limits.{outsiderLines, maxLines}
 use Rattle.swap.specs.Swaps.{Swap, Sound}
 use Rattle.swap.specs.declared.faults.Fault.{Fault}
@@ -49,24 +53,34 @@ times-taken n (w ∷ ws) h = go (times-taken n ws) (eqb n (w .number)) refl
         (t .0, w ∷ t .1, later (t .2), t .3)
 
 -- lines can be submitted
-submit-any : (b : Bool) (w : Waiting) (ws : List Waiting) → (vs : List Waiting) × When b (Taken w vs ws) (vs ≡ ws)
-submit-any true w ws = (w ∷ ws, here)
-submit-any false w ws = (ws, refl)
+submit-any : (w : Waiting) (ws : List Waiting) → (vs : List Waiting) × (answer : Result (Unit {0}) Refusal) × Submitted w answer ws vs
+submit-any w ws = go (ltb (length ws) maxLines) (waits (w .number) ws) refl refl
+  where
+    go : (b c : Bool) → ltb (length ws) maxLines ≡ b → waits (w .number) ws ≡ c → (vs : List Waiting) × (answer : Result (Unit {0}) Refusal) × Submitted w answer ws vs
+    go true false e f = (w ∷ ws, Ok tt, (ltb-true _ _ e, f, here))
+    go true true e f = (ws, Err Duplicate, (ltb-true _ _ e, f, refl))
+    go false c e f = (ws, Err Full, (ltb-false _ _ e, refl))
 
 added-any : (r : Run) (n k : ℕ) (ws : List Waiting) → (vs : List Waiting) × Added r n (n + k) ws vs
 added-any r n zero ws = (ws, subst (λ m. Added r n m ws ws) (omega arith) Added.nothing)
 added-any r n (suc k) ws =
     let t = added-any r n k ws in
-    let u = submit-any (accepts (n + k) (t .0)) (waitingLine r (n + k)) (t .0) in
-    (u .0, subst (λ m. Added r n m ws (u .0)) (omega arith) (added (t .1) (u .1)))
+    let u = submit-any (waitingLine r (n + k)) (t .0) in
+    (u .0, subst (λ m. Added r n m ws (u .0)) (omega arith) (added (t .1) (u .1) (u .2)))
 
 added-to : (r : Run) (n m : ℕ) (ws : List Waiting) → n ≤ m → (vs : List Waiting) × Added r n m ws vs
 added-to r n m ws h = let t = added-any r n (Prim.Native.Nat._-_ m n) ws in (t .0, subst (λ k. Added r n k ws (t .0)) (omega arith) (t .1))
 
+handled-push : (p : Swap) (ws : List Waiting) (w : Waiting) (r : Run) → handled p (ws ++ w ∷ []) r ≡ handle p (w .number) (handled p ws r)
+handled-push p [] w r = refl
+handled-push p (v ∷ ws) w r = handled-push p ws w (handle p (v .number) r)
+
 -- lines 0 to k have been looked at in a tick, and those that are due were handed out
 record Looked (p : Swap) (r : Run) (ws : List Waiting) (k : ℕ) (s : Run) : Type 0 where
+  handed : List Waiting
   left : List Waiting
-  deliveries : Deliveries p (ticked r) ws s left
+  drained : Drained handed ws left
+  run : s ≡ handled p handed (ticked r)
   due : (n : ℕ) → n < k → n < s .count → s .verdict n ≡ pending → s .tick < s .line n .filed + p .delta
 
 module _ (p : Swap) (r : Run) (ws : List Waiting) (q : Quiet p r ws) where
@@ -75,8 +89,10 @@ module _ (p : Swap) (r : Run) (ws : List Waiting) (q : Quiet p r ws) where
 
   skipped : (k : ℕ) (s : Run) → Looked p r ws k s → (k < s .count → s .verdict k ≡ pending → s .tick < s .line k .filed + p .delta) → Looked p r ws (suc k) s
   skipped k s l h = record {
+    handed = l .handed;
     left = l .left;
-    deliveries = l .deliveries;
+    drained = l .drained;
+    run = l .run;
     due = λ n a b e. ⊎-elim
         (λ z. subst (λ m. m < s .count → s .verdict m ≡ pending → s .tick < s .line m .filed + p .delta) (sym z) h b e)
         (λ d. l .due n (omega arith) b e)
@@ -93,14 +109,18 @@ module _ (p : Swap) (r : Run) (ws : List Waiting) (q : Quiet p r ws) where
   judged-due k s l n a b = put-case (λ z. z ≡ pending → s .tick < s .line n .filed + p .delta) (s .verdict) k (judged p s (s .line k)) n
       (λ _ z. let y = judged-small s k in absurd (omega arith)) (λ d. l .due n (omega arith) b)
 
+  heard : {k : ℕ} (s : Run) → (l : Looked p r ws k s) → Delivered p (ticked r) s (l .left)
+  heard s l = subst (λ y. Delivered p (ticked r) y (l .left)) (sym (l .run)) (delivered p (ticked r) (l .drained) (q .queue) old)
+
   judged-next : (k : ℕ) (s : Run) → Looked p r ws k s → k < s .count → s .verdict k ≡ pending → Looked p r ws (suc k) (deliver p k s)
   unfolding deliver
   judged-next k s l h e =
-      let d = delivered p (l .deliveries) (q .queue) old in
-      let t = times-taken k (l .left) (waits-taken (d .queue) k h e) in
+      let t = times-taken k (l .left) (waits-taken (heard s l .queue) k h e) in
       record {
+        handed = l .handed ++ t .0 ∷ [];
         left = t .1;
-        deliveries = subst (λ y. Deliveries p (ticked r) ws y (t .1)) (ap (λ m. handle p m s) (t .3) ∙ handle-deliver p k s h e) (handed (t .0) (l .deliveries) (t .2));
+        drained = drained-push (l .drained) (t .2) refl;
+        run = sym (handle-deliver p k s h e) ∙ ap (λ m. handle p m s) (sym (t .3)) ∙ ap (handle p (t .0 .number)) (l .run) ∙ sym (handled-push p (l .handed) (t .0) (ticked r));
         due = judged-due k s l;
       }
 
@@ -133,18 +153,18 @@ ticked-by : (delivery : Delivery) (p : Swap) (r : Run) (ws : List Waiting) → Q
 unfolding tickBy
 ticked-by delivery p r ws q =
     let i = quiet-inv p r ws q in
-    let heard = each (r .count) (hands delivery p) (ticked r) in
-    let l : Looked p r ws (r .count) heard = each-ind (Looked p r ws) (hands delivery p) (ticked r) (r .count)
-    (record { left = ws; deliveries = Deliveries.nothing; due = λ n a. absurd (omega arith) }) (λ k s _ x. hands-next p r ws q delivery k s x) in
-    let d = delivered p (l .deliveries) (q .queue) (old p r ws q) in
-    let none : Fresh (suc (r .tick)) (p .delta) (l .left) = all-weaker (λ w. Known (heard .count) (heard .line) w × (heard .verdict (w .number) ≡ pending)) _
+    let s = each (r .count) (hands delivery p) (ticked r) in
+    let l : Looked p r ws (r .count) s = each-ind (Looked p r ws) (hands delivery p) (ticked r) (r .count)
+    (record { handed = []; left = ws; drained = none; run = refl; due = λ n a. absurd (omega arith) }) (λ k s _ x. hands-next p r ws q delivery k s x) in
+    let d = heard p r ws q s l in
+    let soon : All (Fresh (suc (r .tick)) (p .delta)) (l .left) = all-weaker (λ w. Known (s .count) (s .line) w × (s .verdict (w .number) ≡ pending)) _
     (λ w k. let c = d .count in let t = d .tick in let f = k .0 .2 in let b = k .0 .0 in
     let z = l .due (w .number) (omega arith) b (k .1) in omega arith)
     (l .left) (queue-known (d .queue)) in
-    let inv = inv-steps p (q .sound) (ticked r) heard (inv-tick p r i (q .rested)) (d .steps) in
-    let w = turned p (q .sound) heard inv (heard-all p r heard ws (l .left) i (q .rested) d none) in
-    let a = added-to (turns p heard) (heard .count) (turns p heard .count) (l .left) (w .longer .count) in
-    (a .0, record { heard = heard; left = l .left; deliveries = l .deliveries; none = none; filed = refl; waits = a .1 }, w .tick ∙ d .tick)
+    let inv = inv-steps p (q .sound) (ticked r) s (inv-tick p r i (q .rested)) (d .steps) in
+    let w = turned p (q .sound) s inv (heard-all p r s ws (l .left) i (q .rested) d soon) in
+    let a = added-to (turns p s) (r .count) (turns p s .count) (l .left) (subst (λ n. n ≤ turns p s .count) (d .count) (w .longer .count)) in
+    (a .0, record { handed = l .handed; left = l .left; drained = l .drained; fresh = soon; filed = ap (turns p) (l .run); waits = a .1 }, w .tick ∙ d .tick)
 
 tick-by : (delivery : Delivery) (p : Swap) (r : Run) (ws : List Waiting) → Reached (running p r ws) → r .tick < lastTick p
     → (vs : List Waiting) × Reached (running p (tickBy delivery p r) vs) × (tickBy delivery p r .tick ≡ suc (r .tick))

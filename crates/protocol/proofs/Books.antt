@@ -1,11 +1,14 @@
 -- The books balance: what a party has and has put up or paid is what it held and was paid, and an escrow account holds its asset while the leg is open.
 use Prim.Native.Nat.{ℕ, zero, suc, _+_, _-_, _≤_, _<_}
-use lib.Dec.{eqb, leb, ltb}
+use lib.Dec.{eqb, leb}
 use mathlib.Core.Bool.{Bool, true, false, cond, not, _&&_, _||_}
 use mathlib.Core.List.{List}
 use mathlib.Core.Logic.{⊎-elim}
 use mathlib.Core.Path.{_≡_, refl, sym, ap, _∙_}
 use native.Mathlib.Omega.{arith}
+use Rattle.ledgers.proofs.LawsHold.{worth-le, accepted-deposit, deposit-ok}
+use Rattle.ledgers.specs.Calls.{Answer, depositVerdict}
+use Rattle.ledgers.specs.Stocks.{Lawful, content}
 use Rattle.protocol.proofs.Basics.{Fails, put-case}
 use Rattle.protocol.proofs.Invariants.{Signed, Fair, Books, gone, come}
 use Rattle.protocol.proofs.Sums.{sum-put}
@@ -13,14 +16,16 @@ use Rattle.swap.proofs.Sums.{sum-zero, sum-le, sum-term, sum-less}
 use Rattle.protocol.specs.Calls.{fresh}
 use Rattle.protocol.specs.Promises.{spent, fallen}
 use Rattle.protocol.specs.State.{Phase, Vacant, Held, Paid, Back, isVacant, isHeld, isPaid, Escrow, Transaction, Open, Key, Refund, legOf, Run, stands}
-use Rattle.protocol.specs.Stocks.{Stock, unitOf, amountOf, unitsOf, content, refuses, credit, deposit, release, entered}
+use Rattle.protocol.specs.Stocks.{Stock, refuses, credit, deposit, release, entered}
 use Rattle.protocol.specs.Tables.{put}
 use Rattle.protocol.specs.Verdicts.{tests, effect, allOpened, ends}
-use Rattle.std.proofs.shelf.Tests.{eqb-true, eqb-false, eq-eqb, ne-eqb, ltb-true, ltb-false, le-ltb, leb-true, and-parts, or-parts, or-from, cases-eq, not-false, cond-true, false≢true}
+use Rattle.std.proofs.shelf.Tests.{eqb-true, eqb-false, eq-eqb, ne-eqb, ltb-true, leb-true, and-parts, cases-eq, not-false, cond-true, false≢true}
+use Rattle.std.specs.Results.{isErr}
 use Rattle.std.specs.declared.option.Option.{Option}
 use Rattle.std.specs.declared.option.Option.the-variants.{Some}
-use Rattle.swap.specs.Assets.{worth, holdsCoins, assetOn, coinAsset, titleAsset}
-use Rattle.swap.specs.Limits.{titles, maxCoins}
+use Rattle.std.specs.declared.result.Result.the-variants.{Ok, Err}
+use Rattle.swap.specs.Assets.{Rules, rulesIf, rulesOf, worth, holdsCoins, assetOn}
+use Rattle.swap.specs.Limits.{titles, maxCoins, maxParties, maxLegs}
 use Rattle.swap.specs.Swaps.{Swap, Sound, start, sumBelow}
 use Rattle.swap.specs.declared.records.Holder.the-variants.{Party}
 use Rattle.swap.specs.declared.records.Holder.the-variants.{Escrow as Account}
@@ -41,50 +46,37 @@ safe p r b v none l u =
     let t = b .parties v l u in
     let s =
     sum-le (p .legs) (gone p (r .escrow) v l u)
-    (λ i. cond (eqb (p .payer i) v && eqb (p .ledger i) l && isPaid (r .escrow i .phase)) (worth l (r .escrow i .asset) u) 0)
-    (λ i h. safe-term (eqb (p .payer i) v) (eqb (p .ledger i) l) (r .escrow i .phase) (worth l (r .escrow i .asset) u)
+    (λ i. cond (eqb (p .payer i) v && eqb (p .ledger i) l && isPaid (r .escrow i .phase)) (worth (rulesOf l) (r .escrow i .asset) u) 0)
+    (λ i h. safe-term (eqb (p .payer i) v) (eqb (p .ledger i) l) (r .escrow i .phase) (worth (rulesOf l) (r .escrow i .asset) u)
     (λ e. none i h (eqb-true (p .payer i) v e)))
     in
     omega arith
 
--- An asset is so many of its unit.
-pub worth-unit : (l a : ℕ) → worth l a (unitOf l a) ≡ amountOf l a
-worth-unit l a = go (holdsCoins l)
-  where
-    go : (b : Bool) → cond b (cond (eqb (cond b 0 a) 0) a 0) (cond (eqb (cond b 0 a) a) 1 0) ≡ cond b a 1
-    go true = refl
-    go false = rw (eq-eqb a a refl)
+-- over variables, since the figures would unfold the sums
+pub in-range : (v n m : ℕ) → v < n → n ≤ m → v < m
+in-range v n m a b = omega arith
 
-worth-le : (l a u : ℕ) (f : ℕ → ℕ) → amountOf l a ≤ f (unitOf l a) → worth l a u ≤ f u
-worth-le l a u f = go (holdsCoins l)
-  where
-    at : (b : Bool) (k x : ℕ) → eqb u k ≡ b → x ≤ f k → cond b x 0 ≤ f u
-    at true k x e h = rw (eqb-true u k e) h
-    at false k x e h = omega arith
+-- An asset is so many of its unit, and some.
+pub worth-unit : (k : Rules) (a : ℕ) → worth k a (k .unit a) ≡ k .amount a
+worth-unit k a = cond-true (eqb (k .unit a) (k .unit a)) (k .amount a) 0 (eq-eqb (k .unit a) (k .unit a) refl)
 
-    go : (b : Bool) → cond b a 1 ≤ f (cond b 0 a) → cond b (cond (eqb u 0) a 0) (cond (eqb u a) 1 0) ≤ f u
-    go true h = at (eqb u 0) 0 a refl h
-    go false h = at (eqb u a) a 1 refl h
-
-unit-below : (l a : ℕ) → assetOn l a ≡ true → (unitOf l a < unitsOf l) × (0 < amountOf l a)
-unit-below l a = go (holdsCoins l)
-  where
-    go : (b : Bool) → cond b (coinAsset a) (titleAsset a) ≡ true → (cond b 0 a < cond b 1 titles) × (0 < cond b a 1)
-    go true h = (omega arith, leb-true 1 a (and-parts (leb 1 a) (leb a maxCoins) h .0))
-    go false h = (ltb-true a titles h, omega arith)
+lawful : (b : Bool) → Lawful (rulesIf b)
+lawful true a h = (leb-true 1 a (and-parts (leb 1 a) (leb a maxCoins) h .0), omega arith)
+lawful false a h = (omega arith, ltb-true a titles h)
 
 -- A release never meets an empty account.
-pub full : (p : Swap) → Sound p → (escrow : ℕ → Escrow) (stock : Stock) → Books p escrow stock → (i : ℕ) → i < p .legs → escrow i .phase ≡ Held
-    → assetOn (p .ledger i) (escrow i .asset) ≡ true → 0 < content (p .ledger i) stock i
-unfolding content
-full p sound escrow stock b i h held on =
+pub full : (p : Swap) → (escrow : ℕ → Escrow) (stock : Stock) → Books p escrow stock → (i : ℕ) → i < p .legs → escrow i .phase ≡ Held
+    → assetOn (p .ledger i) (escrow i .asset) ≡ true → 0 < content (rulesOf (p .ledger i)) (stock (p .ledger i)) i
+full p escrow stock b i h held on =
     let l : ℕ = p .ledger i in
+    let k : Rules = rulesOf l in
     let a : ℕ = escrow i .asset in
-    let k = unit-below l a on in
-    let t = sum-term (unitsOf l) (stock l (Account i)) (unitOf l a) (k .0) in
-    let e = b .accounts i l (unitOf l a) h in
-    let c = cond-true (eqb l l && isHeld (escrow i .phase)) (worth l a (unitOf l a)) 0 (rw held (rw (eq-eqb l l refl) refl)) in
-    let w = worth-unit l a in
+    let some = lawful (holdsCoins l) a on in
+    let t = sum-term (k .units) (stock l (Account i)) (k .unit a) (some .1) in
+    let e = b .accounts i l (k .unit a) h in
+    let c = cond-true (eqb l l && isHeld (escrow i .phase)) (worth k a (k .unit a)) 0 (rw held (rw (eq-eqb l l refl) refl)) in
+    let w = worth-unit k a in
+    let z = some .0 in
     omega arith
 
 -- Moves
@@ -111,34 +103,34 @@ and-none : (b : Bool) (w : ℕ) → cond (b && false) w 0 ≡ 0
 and-none true w = refl
 and-none false w = refl
 
-credit-party : (L P a : ℕ) (s : Stock) (v l u : ℕ) → credit L P a s l (Party v) u ≡ s l (Party v) u + cond (eqb P v && eqb L l) (worth l a u) 0
+credit-party : (L P a : ℕ) (s : Stock) (v l u : ℕ) → credit L P a s l (Party v) u ≡ s l (Party v) u + cond (eqb P v && eqb L l) (worth (rulesOf l) a u) 0
 credit-party L P a s v l u =
-    one-place (λ c d. c ≡ s l (Party v) u + d) l L v P (s l (Party P) u + worth L a u) (s l (Party v) u) (worth l a u)
+    one-place (λ c d. c ≡ s l (Party v) u + d) l L v P (s l (Party P) u + worth (rulesOf L) a u) (s l (Party v) u) (worth (rulesOf l) a u)
     (λ e f. rw (e, f) refl) (omega arith)
 
 credit-account : (L P a : ℕ) (s : Stock) (i l u : ℕ) → credit L P a s l (Account i) u ≡ s l (Account i) u
 credit-account L P a s i l u = no-change (eqb l L) (s l (Account i) u)
 
-deposit-party : (L P i a : ℕ) (s : Stock) (v l u : ℕ) → worth L a u ≤ s L (Party P) u
-    → deposit L P i a s l (Party v) u + cond (eqb P v && eqb L l) (worth l a u) 0 ≡ s l (Party v) u
+deposit-party : (L P i a : ℕ) (s : Stock) (v l u : ℕ) → worth (rulesOf L) a u ≤ s L (Party P) u
+    → deposit L P i a s l (Party v) u + cond (eqb P v && eqb L l) (worth (rulesOf l) a u) 0 ≡ s l (Party v) u
 deposit-party L P i a s v l u h =
-    one-place (λ c d. c + d ≡ s l (Party v) u) l L v P (s l (Party P) u - worth L a u) (s l (Party v) u) (worth l a u)
+    one-place (λ c d. c + d ≡ s l (Party v) u) l L v P (s l (Party P) u - worth (rulesOf L) a u) (s l (Party v) u) (worth (rulesOf l) a u)
     (λ e f. rw (e, f) (omega arith)) (omega arith)
 
-deposit-account : (L P i a : ℕ) (s : Stock) (l u : ℕ) → s l (Account i) u ≡ 0 → deposit L P i a s l (Account i) u ≡ cond (eqb L l && true) (worth l a u) 0
+deposit-account : (L P i a : ℕ) (s : Stock) (l u : ℕ) → s l (Account i) u ≡ 0 → deposit L P i a s l (Account i) u ≡ cond (eqb L l && true) (worth (rulesOf l) a u) 0
 deposit-account L P i a s l u h = rw (eq-eqb i i refl, eqb-comm l L) (go (eqb L l) refl)
   where
-    go : (b : Bool) → eqb L l ≡ b → cond b (s l (Account i) u + worth L a u) (s l (Account i) u) ≡ cond (b && true) (worth l a u) 0
+    go : (b : Bool) → eqb L l ≡ b → cond b (s l (Account i) u + worth (rulesOf L) a u) (s l (Account i) u) ≡ cond (b && true) (worth (rulesOf l) a u) 0
     go true e = rw (h, eqb-true L l e) (omega arith)
     go false e = h
 
 deposit-other : (L P i a : ℕ) (s : Stock) (k l u : ℕ) → (k ≡ i → ⊥) → deposit L P i a s l (Account k) u ≡ s l (Account k) u
 deposit-other L P i a s k l u ne = rw (ne-eqb k i ne) (no-change (eqb l L) (s l (Account k) u))
 
-release-party : (L i P a : ℕ) (s : Stock) (v l u : ℕ) → s L (Account i) u ≡ worth L a u
-    → release L i P s l (Party v) u ≡ s l (Party v) u + cond (eqb P v && eqb L l) (worth l a u) 0
+release-party : (L i P a : ℕ) (s : Stock) (v l u : ℕ) → s L (Account i) u ≡ worth (rulesOf L) a u
+    → release L i P s l (Party v) u ≡ s l (Party v) u + cond (eqb P v && eqb L l) (worth (rulesOf l) a u) 0
 release-party L i P a s v l u h =
-    one-place (λ c d. c ≡ s l (Party v) u + d) l L v P (s l (Party P) u + s l (Account i) u) (s l (Party v) u) (worth l a u)
+    one-place (λ c d. c ≡ s l (Party v) u + d) l L v P (s l (Party P) u + s l (Account i) u) (s l (Party v) u) (worth (rulesOf l) a u)
     (λ e f. rw (e, f) (ap (λ x. s L (Party P) u + x) h)) (omega arith)
 
 release-account : (L i P : ℕ) (s : Stock) (l u : ℕ) → ((L ≡ l → ⊥) → s l (Account i) u ≡ 0) → release L i P s l (Account i) u ≡ 0
@@ -154,12 +146,12 @@ release-other L i P s k l u ne = rw (ne-eqb k i ne) (no-change (eqb l L) (s l (A
 -- The start
 
 pub entered-party : (p : Swap) (v l u k : ℕ)
-    → entered p k l (Party v) u ≡ sumBelow k (λ j. cond (eqb (p .holder j) v && eqb (p .heldOn j) l) (worth l (p .held j) u) 0)
+    → entered p k l (Party v) u ≡ sumBelow k (λ j. cond (eqb (p .holder j) v && eqb (p .heldOn j) l) (worth (rulesOf l) (p .held j) u) 0)
 unfolding entered
 entered-party p v l u zero = refl
 entered-party p v l u (suc k) =
     credit-party (p .heldOn k) (p .holder k) (p .held k) (entered p k) v l u
-    ∙ ap (λ x. x + cond (eqb (p .holder k) v && eqb (p .heldOn k) l) (worth l (p .held k) u) 0) (entered-party p v l u k)
+    ∙ ap (λ x. x + cond (eqb (p .holder k) v && eqb (p .heldOn k) l) (worth (rulesOf l) (p .held k) u) 0) (entered-party p v l u k)
 
 pub entered-account : (p : Swap) (i l u k : ℕ) → entered p k l (Account i) u ≡ 0
 unfolding entered
@@ -174,10 +166,10 @@ pub books-fresh : (p : Swap) → Sound p → Books p (fresh p .escrow) (fresh p 
 books-fresh p sound = record {
   parties = λ v l u.
       let s = start-stock p sound v l u in
-      let a = sum-zero (p .legs) (gone p (fresh p .escrow) v l u) (λ i h. and-none (eqb (p .payer i) v && eqb (p .ledger i) l) (worth l 0 u)) in
-      let b = sum-zero (p .legs) (come p (fresh p .escrow) v l u) (λ i h. and-none (eqb (p .receiver i) v && eqb (p .ledger i) l) (worth l 0 u)) in
+      let a = sum-zero (p .legs) (gone p (fresh p .escrow) v l u) (λ i h. and-none (eqb (p .payer i) v && eqb (p .ledger i) l) (worth (rulesOf l) 0 u)) in
+      let b = sum-zero (p .legs) (come p (fresh p .escrow) v l u) (λ i h. and-none (eqb (p .receiver i) v && eqb (p .ledger i) l) (worth (rulesOf l) 0 u)) in
       omega arith;
-  accounts = λ i l u h. entered-account p i l u (p .holdings) ∙ sym (and-none (eqb (p .ledger i) l) (worth l 0 u));
+  accounts = λ i l u h. entered-account p i l u (p .holdings) ∙ sym (and-none (eqb (p .ledger i) l) (worth (rulesOf l) 0 u));
 }
 
 -- The book takes a conforming party's open: what it has put up is the plan's, and its holdings cover that.
@@ -199,30 +191,37 @@ stands-asset p k e h =
 pub enough : (p : Swap) → Sound p → (escrow : ℕ → Escrow) (stock : Stock) → Books p escrow stock → (i : ℕ) → i < p .legs → escrow i .phase ≡ Vacant
     → ((k : ℕ) → k < p .legs → p .payer k ≡ p .payer i → isVacant (escrow k .phase) ≡ false → stands p k (escrow k) ≡ true)
     → refuses (p .ledger i) (p .payer i) i (p .asset i) stock ≡ false
-unfolding content
+unfolding refuses
 enough p sound escrow stock b i h vacant planned =
     let l : ℕ = p .ledger i in
     let v : ℕ = p .payer i in
-    let u : ℕ = unitOf l (p .asset i) in
-    let none =
-    sum-zero (unitsOf l) (stock l (Account i))
-    (λ w hw. b .accounts i l w h ∙ rw vacant (and-none (eqb l l) (worth l (escrow i .asset) w)))
-    in
-    let here : gone p escrow v l u i + amountOf l (p .asset i) ≤ cond (eqb (p .payer i) v && eqb (p .ledger i) l) (worth l (p .asset i) u) 0
-    = rw (vacant, eq-eqb v v refl, eq-eqb l l refl, worth-unit l (p .asset i)) (omega arith)
+    let a : ℕ = p .asset i in
+    let u : ℕ = rulesOf l .unit a in
+    let here : gone p escrow v l u i + rulesOf l .amount a ≤ cond (eqb (p .payer i) v && eqb (p .ledger i) l) (worth (rulesOf l) (p .asset i) u) 0
+    = rw (vacant, eq-eqb v v refl, eq-eqb l l refl, worth-unit (rulesOf l) a) (omega arith)
     in
     let less =
-    sum-less (p .legs) (gone p escrow v l u) (λ k. cond (eqb (p .payer k) v && eqb (p .ledger k) l) (worth l (p .asset k) u) 0) i (amountOf l (p .asset i)) h
-    (λ k hk. owed-term (eqb (p .payer k) v) (eqb (p .ledger k) l) (escrow k .phase) (worth l (escrow k .asset) u) (worth l (p .asset k) u)
-    (λ e n. ap (λ a. worth l a u) (stands-asset p k (escrow k) (planned k hk (eqb-true (p .payer k) v e) n))))
+    sum-less (p .legs) (gone p escrow v l u) (λ k. cond (eqb (p .payer k) v && eqb (p .ledger k) l) (worth (rulesOf l) (p .asset k) u) 0) i (rulesOf l .amount a) h
+    (λ k hk. owed-term (eqb (p .payer k) v) (eqb (p .ledger k) l) (escrow k .phase) (worth (rulesOf l) (escrow k .asset) u) (worth (rulesOf l) (p .asset k) u)
+    (λ e n. ap (λ a. worth (rulesOf l) a u) (stands-asset p k (escrow k) (planned k hk (eqb-true (p .payer k) v e) n))))
     here
     in
     let bal = b .parties v l u in
     let cov = sound .covered v l u in
-    or-from (ltb 0 (content l stock i)) (ltb (stock l (Party v) u) (amountOf l (p .asset i)))
-    (le-ltb 0 (content l stock i) (omega arith)) (le-ltb (stock l (Party v) u) (amountOf l (p .asset i)) (omega arith))
+    ap isErr (deposit-ok (rulesOf l) v i a (stock l) (record {
+      payer = in-range v (p .parties) maxParties (sound .exist i h .0) (sound .most);
+      free = in-range i (p .legs) maxLegs h (sound .legsMost);
+      asset-ok = sound .assets i h .1;
+      empty = sum-zero (rulesOf l .units) (stock l (Account i))
+          (λ w hw. b .accounts i l w h ∙ rw vacant (and-none (eqb l l) (worth (rulesOf l) (escrow i .asset) w)));
+      enough = omega arith;
+    }))
 
 -- What takes effect keeps the books.
+
+not-err : (a : Answer) → isErr a ≡ false → a ≡ Ok tt
+not-err (Ok _) h = refl
+not-err (Err e) h = absurd (false≢true (sym h))
 
 is-vacant : (x : Phase) → isVacant x ≡ true → x ≡ Vacant
 is-vacant Vacant h = refl
@@ -238,16 +237,16 @@ is-held Back h = absurd (false≢true h)
 
 -- what an escrow of leg k takes from a party and brings it
 abbrev takes : Swap → ℕ → ℕ → ℕ → ℕ → Escrow → ℕ
-takes p v l u k e = cond (eqb (p .payer k) v && eqb (p .ledger k) l && (isHeld (e .phase) || isPaid (e .phase))) (worth l (e .asset) u) 0
+takes p v l u k e = cond (eqb (p .payer k) v && eqb (p .ledger k) l && (isHeld (e .phase) || isPaid (e .phase))) (worth (rulesOf l) (e .asset) u) 0
 
 abbrev brings : Swap → ℕ → ℕ → ℕ → ℕ → Escrow → ℕ
-brings p v l u k e = cond (eqb (p .receiver k) v && eqb (p .ledger k) l && isPaid (e .phase)) (worth l (e .asset) u) 0
+brings p v l u k e = cond (eqb (p .receiver k) v && eqb (p .ledger k) l && isPaid (e .phase)) (worth (rulesOf l) (e .asset) u) 0
 
 -- One escrow changes, and the stock with it.
 books-put : (p : Swap) (escrow : ℕ → Escrow) (stock stock′ : Stock) (i : ℕ) (e : Escrow) → i < p .legs → Books p escrow stock
     → ((v l u : ℕ) → stock′ l (Party v) u + takes p v l u i e + brings p v l u i (escrow i)
     ≡ stock l (Party v) u + takes p v l u i (escrow i) + brings p v l u i e)
-    → ((l u : ℕ) → stock′ l (Account i) u ≡ cond (eqb (p .ledger i) l && isHeld (e .phase)) (worth l (e .asset) u) 0)
+    → ((l u : ℕ) → stock′ l (Account i) u ≡ cond (eqb (p .ledger i) l && isHeld (e .phase)) (worth (rulesOf l) (e .asset) u) 0)
     → ((k l u : ℕ) → (k ≡ i → ⊥) → stock′ l (Account k) u ≡ stock l (Account k) u)
     → Books p (put escrow i e) stock′
 books-put p escrow stock stock′ i e h b moved here other = record {
@@ -258,7 +257,7 @@ books-put p escrow stock stock′ i e h b moved here other = record {
       let q = b .parties v l u in
       omega arith;
   accounts = λ k l u hk.
-      put-case (λ x. stock′ l (Account k) u ≡ cond (eqb (p .ledger k) l && isHeld (x .phase)) (worth l (x .asset) u) 0) escrow i e k
+      put-case (λ x. stock′ l (Account k) u ≡ cond (eqb (p .ledger k) l && isHeld (x .phase)) (worth (rulesOf l) (x .asset) u) 0) escrow i e k
       (λ q. rw q (here l u)) (λ ne. other k l u ne ∙ b .accounts k l u hk);
 }
 
@@ -299,9 +298,9 @@ back-terms false false false w s s′ h = omega arith
 module _ (p : Swap) (escrow : ℕ → Escrow) (stock : Stock) (i : ℕ) (h : i < p .legs) (b : Books p escrow stock) where
   -- the account of a leg that is not open is empty, and an open leg's holds its asset
   vacant-account : escrow i .phase ≡ Vacant → (l u : ℕ) → stock l (Account i) u ≡ 0
-  vacant-account e l u = b .accounts i l u h ∙ rw e (and-none (eqb (p .ledger i) l) (worth l (escrow i .asset) u))
+  vacant-account e l u = b .accounts i l u h ∙ rw e (and-none (eqb (p .ledger i) l) (worth (rulesOf l) (escrow i .asset) u))
 
-  held-account : escrow i .phase ≡ Held → (u : ℕ) → stock (p .ledger i) (Account i) u ≡ worth (p .ledger i) (escrow i .asset) u
+  held-account : escrow i .phase ≡ Held → (u : ℕ) → stock (p .ledger i) (Account i) u ≡ worth (rulesOf (p .ledger i)) (escrow i .asset) u
   held-account e u = b .accounts i (p .ledger i) u h ∙ rw (e, eq-eqb (p .ledger i) (p .ledger i) refl) refl
 
   away-account : (l u : ℕ) → (p .ledger i ≡ l → ⊥) → stock l (Account i) u ≡ 0
@@ -310,17 +309,15 @@ module _ (p : Swap) (escrow : ℕ → Escrow) (stock : Stock) (i : ℕ) (h : i <
   opened-books : (asset : ℕ) (e : Escrow) → e .phase ≡ Held → e .asset ≡ asset → escrow i .phase ≡ Vacant
       → refuses (p .ledger i) (p .payer i) i asset stock ≡ false
       → Books p (put escrow i e) (deposit (p .ledger i) (p .payer i) i asset stock)
+  unfolding refuses
   opened-books asset e held has vacant taken =
       let L : ℕ = p .ledger i in
       let P : ℕ = p .payer i in
-      let le : amountOf L asset ≤ stock L (Party P) (unitOf L asset)
-      = ltb-false (stock L (Party P) (unitOf L asset)) (amountOf L asset)
-      (or-parts (ltb 0 (content L stock i)) (ltb (stock L (Party P) (unitOf L asset)) (amountOf L asset)) taken .1)
-      in
+      let le = accepted-deposit (rulesOf L) P i asset (stock L) (sym (not-err (depositVerdict (rulesOf L) P i asset (stock L)) taken)) .enough in
       books-put p escrow stock (deposit L P i asset stock) i e h b
       (λ v l u. rw (vacant, held, has)
-      (opened-terms (eqb P v) (eqb L l) (eqb (p .receiver i) v) (worth l asset u) (worth l (escrow i .asset) u) (stock l (Party v) u)
-      (deposit L P i asset stock l (Party v) u) (deposit-party L P i asset stock v l u (worth-le L asset u (stock L (Party P)) le))))
+      (opened-terms (eqb P v) (eqb L l) (eqb (p .receiver i) v) (worth (rulesOf l) asset u) (worth (rulesOf l) (escrow i .asset) u) (stock l (Party v) u)
+      (deposit L P i asset stock l (Party v) u) (deposit-party L P i asset stock v l u (worth-le (rulesOf L) asset (stock L (Party P)) le u))))
       (λ l u. rw (held, has) (deposit-account L P i asset stock l u (vacant-account vacant l u)))
       (λ k l u ne. deposit-other L P i asset stock k l u ne)
 
@@ -332,9 +329,9 @@ module _ (p : Swap) (escrow : ℕ → Escrow) (stock : Stock) (i : ℕ) (h : i <
       let a : ℕ = escrow i .asset in
       books-put p escrow stock (release L i P stock) i e h b
       (λ v l u. rw (held, paid, has)
-      (paid-terms (eqb (p .payer i) v) (eqb L l) (eqb P v) (worth l a u) (stock l (Party v) u)
+      (paid-terms (eqb (p .payer i) v) (eqb L l) (eqb P v) (worth (rulesOf l) a u) (stock l (Party v) u)
       (release L i P stock l (Party v) u) (release-party L i P a stock v l u (held-account held u))))
-      (λ l u. rw (paid, has) (release-account L i P stock l u (away-account l u) ∙ sym (and-none (eqb L l) (worth l a u))))
+      (λ l u. rw (paid, has) (release-account L i P stock l u (away-account l u) ∙ sym (and-none (eqb L l) (worth (rulesOf l) a u))))
       (λ k l u ne. release-other L i P stock k l u ne)
 
   back-books : (e : Escrow) → e .phase ≡ Back → e .asset ≡ escrow i .asset → escrow i .phase ≡ Held
@@ -345,9 +342,9 @@ module _ (p : Swap) (escrow : ℕ → Escrow) (stock : Stock) (i : ℕ) (h : i <
       let a : ℕ = escrow i .asset in
       books-put p escrow stock (release L i P stock) i e h b
       (λ v l u. rw (held, back, has)
-      (back-terms (eqb P v) (eqb L l) (eqb (p .receiver i) v) (worth l a u) (stock l (Party v) u)
+      (back-terms (eqb P v) (eqb L l) (eqb (p .receiver i) v) (worth (rulesOf l) a u) (stock l (Party v) u)
       (release L i P stock l (Party v) u) (release-party L i P a stock v l u (held-account held u))))
-      (λ l u. rw (back, has) (release-account L i P stock l u (away-account l u) ∙ sym (and-none (eqb L l) (worth l a u))))
+      (λ l u. rw (back, has) (release-account L i P stock l u (away-account l u) ∙ sym (and-none (eqb L l) (worth (rulesOf l) a u))))
       (λ k l u ne. release-other L i P stock k l u ne)
 
   same-books : (e : Escrow) → e .phase ≡ escrow i .phase → e .asset ≡ escrow i .asset → Books p (put escrow i e) stock

@@ -14,7 +14,7 @@ use Rattle.protocol.specs.Tables.{isSome}
 use Rattle.protocol.specs.Verdicts.{ends, pays, allOpened, pending}
 use Rattle.std.specs.declared.option.Option.{Option}
 use Rattle.std.specs.declared.option.Option.the-variants.{Some, None}
-use Rattle.swap.specs.Assets.{worth, assetOn}
+use Rattle.swap.specs.Assets.{rulesOf, worth, assetOn}
 use Rattle.swap.specs.Limits.{outsiderLines, setBits}
 use Rattle.swap.specs.Routes.{mem}
 use Rattle.swap.specs.Swaps.{Swap, start, sumBelow}
@@ -114,15 +114,15 @@ pub record Duties (p : Swap) (r : Run) : Type 0 where
 -- what is in the books
 abbrev pub gone : Swap → (ℕ → Escrow) → ℕ → ℕ → ℕ → ℕ → ℕ
 gone p escrow v l u i =
-    cond (eqb (p .payer i) v && eqb (p .ledger i) l && (isHeld (escrow i .phase) || isPaid (escrow i .phase))) (worth l (escrow i .asset) u) 0
+    cond (eqb (p .payer i) v && eqb (p .ledger i) l && (isHeld (escrow i .phase) || isPaid (escrow i .phase))) (worth (rulesOf l) (escrow i .asset) u) 0
 
 abbrev pub come : Swap → (ℕ → Escrow) → ℕ → ℕ → ℕ → ℕ → ℕ
-come p escrow v l u i = cond (eqb (p .receiver i) v && eqb (p .ledger i) l && isPaid (escrow i .phase)) (worth l (escrow i .asset) u) 0
+come p escrow v l u i = cond (eqb (p .receiver i) v && eqb (p .ledger i) l && isPaid (escrow i .phase)) (worth (rulesOf l) (escrow i .asset) u) 0
 
 pub record Books (p : Swap) (escrow : ℕ → Escrow) (stock : Stock) : Type 0 where
   pub parties : (v l u : ℕ) → stock l (Party v) u + sumBelow (p .legs) (gone p escrow v l u) ≡ start p v l u + sumBelow (p .legs) (come p escrow v l u)
   pub accounts : (i l u : ℕ) → i < p .legs
-      → stock l (Account i) u ≡ cond (eqb (p .ledger i) l && isHeld (escrow i .phase)) (worth l (escrow i .asset) u) 0
+      → stock l (Account i) u ≡ cond (eqb (p .ledger i) l && isHeld (escrow i .phase)) (worth (rulesOf l) (escrow i .asset) u) 0
 
 pub record Inv (p : Swap) (r : Run) : Type 0 where
   pub facts : Facts p (r .tick) (r .escrow) (r .signed) (r .begun)

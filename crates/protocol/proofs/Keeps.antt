@@ -27,7 +27,7 @@ use Rattle.swap.specs.Swaps.{Swap, Sound}
 
 pub fair : (p : Swap) (x : Transaction) → proper p x ≡ true → Fair p x
 fair p (Open i asset locks) h = let a = and-parts _ _ h in (ltb-true _ _ (a .0), a .1)
-fair p (Key i q) h = (ltb-true _ _ (and-parts _ _ (and-parts _ _ (and-parts _ _ (and-parts _ _ h .0) .0) .0) .0), tt)
+fair p (Key i q) h = (ltb-true _ _ (and-parts _ _ (and-parts _ _ h .0) .0), tt)
 fair p (Refund i) h = (ltb-true _ _ h, tt)
 
 conforming-not : (p : Swap) (v : ℕ) → conforming p v ≡ true → p .outsider v ≡ false

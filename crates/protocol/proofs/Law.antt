@@ -2,7 +2,7 @@
 use Prim.Native.Nat.{ℕ}
 use lib.Dec.{eqb, ltb}
 use mathlib.Core.Bool.{Bool, true, false, cond, _&&_}
-use mathlib.Core.List.{List}
+use mathlib.Core.List.{List, [], _∷_}
 use mathlib.Core.Path.{_≡_, refl, sym, ap, subst, _∙_}
 use native.Mathlib.Omega.{arith}
 use Rattle.protocol.proofs.Books.{start-stock}
@@ -13,7 +13,7 @@ use Rattle.protocol.proofs.Keeps.{inv-fresh, inv-step, inv-steps, atomic, ende
 use Rattle.protocol.proofs.Queue.{Delivered, delivered, heard-all, Quiet, quiet-inv, steps-then}
 use Rattle.protocol.proofs.Reach.{Lasting, reached-lasts}
 use Rattle.protocol.proofs.Turns.{Turned, turned}
-use Rattle.protocol.specs.Calls.{fresh, ticked, Call, load, submit, tick′, Answer, Deliveries, nothing, handed, Ticked, refusal, Effect, Settled, Answered, Reached, after, History, ended as over, called}
+use Rattle.protocol.specs.Calls.{fresh, ticked, Call, load, submit, tick′, Answer, handled, Ticked, refusal, Effect, Settled, Answered, Reached, after, History, ended as over, called}
 use Rattle.protocol.specs.Law.{Law, Lawful, Histories, Rules, Begins}
 use Rattle.protocol.specs.Parties.{file, enter}
 use Rattle.protocol.specs.Promises.{Kept, Promises, Final}
@@ -61,25 +61,27 @@ handle-stays p n r i a b = go (ltb n (r .count) && eqb (r .verdict n) pending)
     go true = ended-stays p r n i a b
     go false = refl
 
-heard-stays : (p : Swap) {r : Run} {ws : List Waiting} {s : Run} {left : List Waiting} → Deliveries p r ws s left → (i : ℕ) → isVacant (r .escrow i .phase) ≡ false → isHeld (r .escrow i .phase) ≡ false
-    → s .escrow i ≡ r .escrow i
-heard-stays p Deliveries.nothing i a b = refl
-heard-stays p (handed {s} w d t) i a b =
-    let k = heard-stays p d i a b in
-    handle-stays p (w .number) s i (ap (λ e. isVacant (e .phase)) k ∙ a) (ap (λ e. isHeld (e .phase)) k ∙ b) ∙ k
+heard-stays : (p : Swap) (ws : List Waiting) (r : Run) (i : ℕ) → isVacant (r .escrow i .phase) ≡ false → isHeld (r .escrow i .phase) ≡ false
+    → handled p ws r .escrow i ≡ r .escrow i
+heard-stays p [] r i a b = refl
+heard-stays p (w ∷ ws) r i a b =
+    let k = handle-stays p (w .number) r i a b in
+    heard-stays p ws (handle p (w .number) r) i (ap (λ e. isVacant (e .phase)) k ∙ a) (ap (λ e. isHeld (e .phase)) k ∙ b) ∙ k
 
 -- the conforming parties' turns in a tick, as steps
-turn-of : (p : Swap) (r s : Run) (ws rest : List Waiting) → (t : Ticked p r ws s rest) → Quiet p r ws → Delivered p (ticked r) (t .heard) (t .left) × Turned p (t .heard) s
+turn-of : (p : Swap) (r s : Run) (ws rest : List Waiting) → (t : Ticked p r ws s rest) → Quiet p r ws
+    → Delivered p (ticked r) (handled p (t .handed) (ticked r)) (t .left) × Turned p (handled p (t .handed) (ticked r)) s
 turn-of p r s ws rest t q =
     let i = quiet-inv p r ws q in
-    let d = delivered p (t .deliveries) (q .queue) (λ n h. let b = i .lines .before n h in omega arith) in
-    let k = inv-steps p (q .sound) (ticked r) (t .heard) (inv-tick p r i (q .rested)) (d .steps) in
-    let w = turned p (q .sound) (t .heard) k (heard-all p r (t .heard) ws (t .left) i (q .rested) d (t .none)) in
-    (d, subst (Turned p (t .heard)) (sym (t .filed)) w)
+    let heard = handled p (t .handed) (ticked r) in
+    let d = delivered p (ticked r) (t .drained) (q .queue) (λ n h. let b = i .lines .before n h in omega arith) in
+    let k = inv-steps p (q .sound) (ticked r) heard (inv-tick p r i (q .rested)) (d .steps) in
+    let w = turned p (q .sound) heard k (heard-all p r heard ws (t .left) i (q .rested) d (t .fresh)) in
+    (d, subst (Turned p heard) (sym (t .filed)) w)
 
 tick-stays : (p : Swap) (r s : Run) (ws rest : List Waiting) → Ticked p r ws s rest → Quiet p r ws
     → (i : ℕ) → isVacant (r .escrow i .phase) ≡ false → isHeld (r .escrow i .phase) ≡ false → s .escrow i ≡ r .escrow i
-tick-stays p r s ws rest t q i a b = ap (λ f. f i) (turn-of p r s ws rest t q .1 .escrow) ∙ heard-stays p (t .deliveries) i a b
+tick-stays p r s ws rest t q i a b = ap (λ f. f i) (turn-of p r s ws rest t q .1 .escrow) ∙ heard-stays p (t .handed) (ticked r) i a b
 
 paid-ended : (f : Phase) → isPaid f ≡ true → (isVacant f ≡ false) × (isHeld f ≡ false)
 paid-ended Vacant h = (sym h, refl)

@@ -1,4 +1,3 @@
-pub mod Agree
 pub mod Basics
 pub mod Sums
 pub mod Invariants
@@ -20,4 +19,3 @@ pub mod Law
 pub mod Nevers
 pub mod Attained
 pub mod Meanings
-pub mod Pools

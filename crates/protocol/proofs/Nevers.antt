@@ -8,29 +8,27 @@ use mathlib.Core.Logic.{⊎-elim}
 use mathlib.Core.Path.{_≡_, refl, sym, ap, subst}
 use native.Mathlib.Omega.{arith}
 use Rattle.ledgers.proofs.LawsHold.{release-ok}
-use Rattle.protocol.proofs.Agree.{books-agree}
+use Rattle.mempool.specs.Calls.{numbers}
 use Rattle.protocol.proofs.Basics.{Fails, passes, one-if, one-most}
-use Rattle.protocol.proofs.Books.{books-took, enough, full}
+use Rattle.protocol.proofs.Books.{in-range, books-took, enough, full}
 use Rattle.protocol.proofs.Delivery.{open-passes}
-use Rattle.protocol.proofs.Holdings.{in-range}
 use Rattle.protocol.proofs.Invariants.{Signed, Way, one, more, LineFact}
 use Rattle.protocol.proofs.Keeps.{inv-fresh, inv-steps}
-use Rattle.protocol.proofs.Queue.{Queue, Known, times, numbers, waits-taken, numbers-apart, room-for, Quiet}
-use Rattle.protocol.proofs.Reach.{reached-lasts}
+use Rattle.protocol.proofs.Queue.{Queue, Known, times, waits-taken, numbers-apart, Quiet, taken-up, tick-done}
+use Rattle.protocol.proofs.Reach.{reached-lasts, filed}
 use Rattle.protocol.proofs.Room.{journal-room}
 use Rattle.protocol.proofs.Standing.{party}
 use Rattle.swap.proofs.Sums.{sum-zero, sum-changed, sum-most}
 use Rattle.protocol.proofs.Ways.{pays-in, way-signed, some-none}
-use Rattle.protocol.specs.Agree.{rulesOf}
-use Rattle.protocol.specs.Calls.{fresh}
-use Rattle.protocol.specs.Law.{Nevers, Pools}
-use Rattle.protocol.specs.State.{Held, legOf, Line}
-use Rattle.protocol.specs.Stocks.{content}
+use Rattle.protocol.specs.Calls.{fresh, Reached}
+use Rattle.protocol.specs.Law.{Nevers, Waits, Pools}
+use Rattle.protocol.specs.State.{legOf, Line, Run, running}
 use Rattle.protocol.specs.Verdicts.{pending, tests, judged}
 use Rattle.std.proofs.shelf.Elements.{all-weaker}
-use Rattle.std.proofs.shelf.Tests.{and-parts, and-from, not-true, not-from-false, cases-bool, eq-eqb, ne-eqb, eqb-true, lt-ltb, or-left, or-right}
+use Rattle.std.proofs.shelf.Tests.{and-parts, and-from, not-true, not-from-false, cases-bool, eq-eqb, ne-eqb, eqb-true, or-left, or-right}
 use Rattle.std.specs.shelf.Lists.{All}
-use Rattle.swap.specs.Limits.{maxLegs, maxLines, maxParties}
+use Rattle.swap.specs.Assets.{rulesOf}
+use Rattle.swap.specs.Limits.{maxLegs, maxParties}
 use Rattle.swap.specs.Routes.{mem, distinct}
 use Rattle.swap.specs.Swaps.{Swap, Sound, sumBelow}
 use Rattle.swap.specs.declared.records.Waiting.{Waiting}
@@ -67,8 +65,6 @@ pub nevers : Nevers
 unfolding judged
 nevers p r s h =
     let k = inv-steps p s (fresh p) r (inv-fresh p s) h in
-    let some : (i : ℕ) → i < p .legs → r .escrow i .phase ≡ Held → 0 < content (p .ledger i) (r .stock) i
-    = λ i b e. full p s (r .escrow) (r .stock) (k .books) i b e (k .facts .ranged i b (rw e refl)) in
     record {
       apart = λ v lock j q c l e u.
           let w = k .facts .routes j lock q (l .0) e in
@@ -81,10 +77,9 @@ nevers p r s h =
           let t = open-passes p s (books-took p s) (enough p s) r k n b w e i asset locks c f in
           passes (tests p (r .tick) (r .signed) (r .stock) (r .line n .filer) (r .line n .transaction) (r .escrow (legOf (r .line n .transaction))))
           (subst (λ y. Fails (tests p (r .tick) (r .signed) (r .stock) (r .line n .filer) y (r .escrow (legOf y)))) (sym x) t);
-      full = some;
       released = λ i v b w e.
           release-ok (rulesOf (p .ledger i)) i v (r .stock (p .ledger i)) (in-range i (p .legs) maxLegs b (s .legsMost)) (in-range v (p .parties) maxParties w (s .most))
-          (subst (λ n. 0 < n) (books-agree (p .ledger i) .contents (r .stock) i) (some i b e));
+          (full p (r .escrow) (r .stock) (k .books) i b e (k .facts .ranged i b (rw e refl)));
       room = journal-room p s r k;
     }
 
@@ -114,8 +109,8 @@ queue-known {m} {line} {verdict} {ws} q = all-waiting (Known m line) (λ n. verd
         go true e = eqb-true _ _ (and-parts _ _ e .1)
         go false e = let z = q .once n in let y = ap one-if e in absurd (omega arith)
 
-pub pools : Pools
-pools p r ws h =
+waiting : (p : Swap) (r : Run) (ws : List Waiting) → Reached (running p r ws) → Waits r ws
+waiting p r ws h =
     let q : Quiet p r ws = reached-lasts h in
     let u = q .queue in
     record {
@@ -123,5 +118,12 @@ pools p r ws h =
       all = λ n b e. times-mem n ws (waits-taken u n b e);
       apart = numbers-apart u;
       few = u .short;
-      accepted = λ h. let a = room-for u in and-from _ _ (lt-ltb (length ws) maxLines (omega arith)) (not-from-false _ (a .0));
     }
+
+pub pools : Pools
+pools = record {
+  waits = waiting;
+  begun = λ p s after t. taken-up p s after t .1;
+  filed = λ p r ws after v x h e a. filed p r ws after v x (reached-lasts h) e a .1;
+  ticked = λ p r s ws after h t. tick-done p r s ws after t (reached-lasts h) .1;
+}

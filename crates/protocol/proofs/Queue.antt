@@ -3,7 +3,7 @@ use Prim.Native.Nat.{ℕ, suc, _+_, _≤_, _<_}
 use lib.Dec.{eqb, ltb}
 use lib.ListN.{length}
 use mathlib.Core.Bool.{Bool, true, false, cond, _&&_, _||_}
-use mathlib.Core.List.{List, [], _∷_, map}
+use mathlib.Core.List.{List, [], _∷_}
 use mathlib.Core.Logic.{⊎-elim}
 use mathlib.Core.Path.{_≡_, refl, sym, ap, subst, _∙_}
 use native.Mathlib.Omega.{arith}
@@ -13,18 +13,21 @@ use Rattle.protocol.proofs.Invariants.{Inv}
 use Rattle.protocol.proofs.Keeps.{inv-fresh, inv-step, inv-steps, outsider-not}
 use Rattle.protocol.proofs.Room.{journal-room}
 use Rattle.protocol.proofs.Turns.{Heard, Longer, turned, heard-fresh, frame-file, done-other}
-use Rattle.protocol.specs.Calls.{proper, ticked, fresh, waitingLine, Added, Deliveries, handed, Ticked, Taken-up, outsiders}
+use Rattle.protocol.specs.Calls.{proper, ticked, fresh, waitingLine, Added, nothing, added, handled, Ticked, Taken-up, outsiders}
+use Rattle.protocol.specs.Law.{NoneRefused}
 use Rattle.protocol.specs.Parties.{file}
 use Rattle.mempool.proofs.Keeping.{taken-all, all-taken, taken-length}
-use Rattle.mempool.specs.Calls.{here, later}
-use Rattle.protocol.specs.Pool.{Taken, Fresh, Submitted}
+use Rattle.mempool.specs.Calls.{Taken, here, later, Drained, Fresh, Submitted, numbers}
+use Rattle.mempool.specs.declared.refusal.Refusal.{Refusal}
+use Rattle.mempool.specs.declared.refusal.Refusal.the-variants.{Full, Duplicate}
 use Rattle.protocol.specs.State.{Transaction, legOf, Line, Run}
 use Rattle.protocol.specs.Steps.{HasLine, Rested, outside, delivers, ticks, Steps, stop, then}
 use Rattle.protocol.specs.Tables.{put}
 use Rattle.protocol.specs.Verdicts.{pending, judged, tests, deliver, handle}
 use Rattle.std.proofs.shelf.Elements.{all-weaker}
-use Rattle.std.proofs.shelf.Tests.{eqb-true, eq-eqb, ne-eqb, ltb-true, lt-ltb, le-ltb, cases-eq, cases-lt, and-parts, and-from, and-left, and-right, or-from, not-from-false, cond-true, cond-false}
-use Rattle.std.proofs.shelf.Ways.{when-true}
+use Rattle.std.proofs.shelf.Tests.{eqb-true, eq-eqb, ne-eqb, ltb-true, lt-ltb, le-ltb, cases-eq, cases-lt, and-parts, and-from, and-left, and-right, or-from, not-from-false, cond-true, cond-false, both-ways}
+use Rattle.std.specs.declared.result.Result.{Result}
+use Rattle.std.specs.declared.result.Result.the-variants.{Ok, Err}
 use Rattle.std.specs.shelf.Lists.{All}
 use Rattle.swap.specs.Routes.{mem, distinct}
 use Rattle.swap.specs.Limits.{outsiderLines, maxLines}
@@ -35,9 +38,6 @@ use Rattle.swap.specs.declared.records.Waiting.{Waiting}
 abbrev pub times : ℕ → List Waiting → ℕ
 times n [] = 0
 times n (w ∷ ws) = one-if (eqb n (w .number)) + times n ws
-
-abbrev pub numbers : List Waiting → List ℕ
-numbers ws = map (λ w. w .number) ws
 
 -- w is a line below m, as it was filed
 abbrev pub Known : ℕ → (ℕ → Line) → Waiting → Type 0
@@ -132,8 +132,8 @@ queue-longer r s ws l q = record {
 }
 
 added-more : {r : Run} {n m : ℕ} {ws after : List Waiting} → Added r n m ws after → n ≤ m
-added-more Added.nothing = omega arith
-added-more (Added.added a t) = let h = added-more a in omega arith
+added-more nothing = omega arith
+added-more (added a answer t) = let h = added-more a in omega arith
 
 ltb-suc : (k m : ℕ) → (k ≡ m → ⊥) → ltb k (suc m) ≡ ltb k m
 ltb-suc k m d = ⊎-elim
@@ -161,22 +161,25 @@ queue-more m line verdict w before after q t e filer filed wait = record {
 }
 
 -- the mempool takes one more line
-accepted : {line : ℕ → Line} {verdict : ℕ → ℕ} {w : Waiting} {before after : List Waiting} → Queue (w .number) line verdict before → w .number < maxLines
-    → Submitted w before after → Taken w after before
-accepted {line} {verdict} {w} {before} {after} q h t =
-    let a = room-for q in
-    when-true (Taken w after before) (after ≡ before) (and-from _ _ (lt-ltb (length before) maxLines (omega arith)) (not-from-false _ (a .0))) t
+accepted : {line : ℕ → Line} {verdict : ℕ → ℕ} {w : Waiting} {before after : List Waiting} (answer : Result (Unit {0}) Refusal)
+    → Queue (w .number) line verdict before → w .number < maxLines → Submitted w answer before after → Taken w after before × (answer ≡ Ok tt)
+accepted (Ok _) q h t = (t .2, refl)
+accepted (Err Full) q h t = let a = room-for q in let b = t .0 in absurd (omega arith)
+accepted (Err Duplicate) q h t = absurd (both-ways _ (room-for q .0) (t .1))
 
-pub queue-added : {r : Run} {n m : ℕ} {ws after : List Waiting} → Added r n m ws after → Queue n (r .line) (r .verdict) ws
-    → ((k : ℕ) → n ≤ k → k < m → r .verdict k ≡ pending) → m ≤ maxLines → Queue m (r .line) (r .verdict) after
-queue-added Added.nothing q wait fits = q
-queue-added {r} {n} (Added.added {m} {ws} {before} {after} a t) q wait fits =
+pub queue-added : {r : Run} {n m : ℕ} {ws after : List Waiting} → (a : Added r n m ws after) → Queue n (r .line) (r .verdict) ws
+    → ((k : ℕ) → n ≤ k → k < m → r .verdict k ≡ pending) → m ≤ maxLines → Queue m (r .line) (r .verdict) after × NoneRefused a
+queue-added nothing q wait fits = (q, tt)
+queue-added {r} {n} (added {m} {ws} {before} {after} a answer t) q wait fits =
     let u = queue-added a q (λ k h l. wait k h (omega arith)) (omega arith) in
-    queue-more m (r .line) (r .verdict) (waitingLine r m) before after u (accepted u (omega arith) t) refl refl refl (wait m (added-more a) (omega arith))
+    let k = accepted answer (u .0) (omega arith) t in
+    (queue-more m (r .line) (r .verdict) (waitingLine r m) before after (u .0) (k .0) refl refl refl (wait m (added-more a) (omega arith)), (u .1, k .1))
 
 -- Filings that add lines, with what they add to what waits
-pub queue-filed : (r s : Run) (ws after : List Waiting) → Longer r s → Added s (r .count) (s .count) ws after → Queued r ws → s .count ≤ maxLines → Queued s after
-queue-filed r s ws after l a q fits = queue-added a (queue-longer r s ws l q) (λ k h m. l .new k h m .0) fits
+pub queue-filed : (r s : Run) (n : ℕ) (ws after : List Waiting) → r .count ≡ n → Longer r s → (a : Added s n (s .count) ws after) → Queued r ws → s .count ≤ maxLines
+    → Queued s after × NoneRefused a
+queue-filed r s n ws after e l a q fits =
+    queue-added a (subst (λ m. Queue m (s .line) (s .verdict) ws) e (queue-longer r s ws l q)) (λ k h m. l .new k (omega arith) m .0) fits
 
 -- A delivery: the line has a verdict
 queue-judged : (m : ℕ) (line : ℕ → Line) (verdict : ℕ → ℕ) (w : Waiting) (before after : List Waiting) (j : ℕ) → j < 255 → Queue m line verdict before → Taken w before after
@@ -232,24 +235,28 @@ pub handle-deliver : (p : Swap) (n : ℕ) (s : Run) → n < s .count → s .verd
 unfolding handle
 handle-deliver p n s h e = cond-true _ (deliver p n s) s (and-from _ _ (lt-ltb n (s .count) h) (eq-eqb (s .verdict n) pending e))
 
-pub delivered : (p : Swap) {r : Run} {ws : List Waiting} {s : Run} {after : List Waiting} → Deliveries p r ws s after → Queued r ws → ((n : ℕ) → n < r .count → r .line n .filed < r .tick)
-    → Delivered p r s after
-delivered p {r} Deliveries.nothing q old = record { steps = stop r; tick = refl; count = refl; line = refl; signed = refl; begun = refl; queue = q }
-delivered p {r} (handed {s} {before} {after} w a t) q old =
-    let d = delivered p a q old in
+drained : (p : Swap) (r s : Run) {handed ws left : List Waiting} → Drained handed ws left → Delivered p r s ws → ((n : ℕ) → n < r .count → r .line n .filed < r .tick)
+    → Delivered p r (handled p handed s) left
+drained p r s Drained.none d old = d
+drained p r s (Drained.more {w} {taken} {before} {between} {after} t rest) d old =
     let h = taken-waits (d .queue) t in
-    subst (λ y. Delivered p r y after) (sym (handle-deliver p (w .number) s (h .0) (h .1))) (deliver-one p r s w before after old d t)
+    drained p r (handle p (w .number) s) rest
+    (subst (λ y. Delivered p r y between) (sym (handle-deliver p (w .number) s (h .0) (h .1))) (deliver-one p r s w before between old d t)) old
+
+pub delivered : (p : Swap) (r : Run) {handed ws left : List Waiting} → Drained handed ws left → Queued r ws → ((n : ℕ) → n < r .count → r .line n .filed < r .tick)
+    → Delivered p r (handled p handed r) left
+delivered p r t q old = drained p r r t (record { steps = stop r; tick = refl; count = refl; line = refl; signed = refl; begun = refl; queue = q }) old
 
 -- After a tick's deliveries, when none is left that has waited Δ ticks, the parties have heard all there is.
-pub heard-all : (p : Swap) (r s : Run) (ws left : List Waiting) → Inv p r → Rested p r → Delivered p (ticked r) s left → Fresh (suc (r .tick)) (p .delta) left → Heard p s
-heard-all p r s ws left i k d none =
+pub heard-all : (p : Swap) (r s : Run) (ws left : List Waiting) → Inv p r → Rested p r → Delivered p (ticked r) s left → All (Fresh (suc (r .tick)) (p .delta)) left → Heard p s
+heard-all p r s ws left i k d soon =
     let lines : s .line ≡ r .line = d .line in
     let count : s .count ≡ r .count = d .count in
     let has : (v : ℕ) (x : Transaction) → HasLine r v x → HasLine s v x = λ v x h.
     (h .0, omega (arith, h .1, count), ap (λ g. g (h .0) .filer) lines ∙ h .2, ap (λ g. g (h .0) .transaction) lines ∙ h .3) in
     record {
       fresh = λ n h e.
-          let w = all-times (λ w. (suc (r .tick) < w .tick + p .delta) × Known (s .count) (s .line) w) n left (all-both (λ w. suc (r .tick) < w .tick + p .delta) (Known (s .count) (s .line)) left none (d .queue .known))
+          let w = all-times (λ w. (suc (r .tick) < w .tick + p .delta) × Known (s .count) (s .line) w) n left (all-both (λ w. suc (r .tick) < w .tick + p .delta) (Known (s .count) (s .line)) left soon (d .queue .known))
           (waits-taken (d .queue) n h e) in
           let a : s .line n .filed ≡ w .0 .tick = ap (λ m. s .line m .filed) (sym (w .1)) ∙ w .2 .1 .2 in
           let b = w .2 .0 in
@@ -283,54 +290,52 @@ pub quiet-inv : (p : Swap) (r : Run) (ws : List Waiting) → Quiet p r ws → In
 quiet-inv p r ws k = inv-steps p (k .sound) (fresh p) r (inv-fresh p (k .sound)) (k .steps)
 
 -- an outsider's filing
-pub submitted : (p : Swap) (r : Run) (ws after : List Waiting) (v : ℕ) (x : Transaction) → p .outsider v ≡ true → outsiders p r < outsiderLines → proper p x ≡ true → Added (file v x r) (r .count) (suc (r .count)) ws after
-    → Quiet p r ws → Quiet p (file v x r) after
+pub submitted : (p : Swap) (r : Run) (ws after : List Waiting) (v : ℕ) (x : Transaction) → p .outsider v ≡ true → outsiders p r < outsiderLines → proper p x ≡ true
+    → (a : Added (file v x r) (r .count) (suc (r .count)) ws after) → Quiet p r ws → Quiet p (file v x r) after × NoneRefused a
 submitted p r ws after v x o few ok a k =
     let f = frame-file v x r in
     let y = file v x r in
-    record {
-      sound = k .sound;
-      steps = then (k .steps) (outside r v x o few ok);
-      rested = record {
-        fresh = λ n h e. ⊎-elim
-            (λ l. let q = f .longer .old n l in
-            let b = k .rested .fresh n l (sym (q .1) ∙ e) in
-            let c = ap (λ z. z .filed) (q .0) in
-            omega (arith, b, c))
-            (λ l. let b = f .longer .new n l h .1 in let c = k .sound .delay .0 in omega (arith, b, c))
-            (cases-lt n (r .count));
-        done = λ u c. done-other p u v r y f
-            (λ e. outsider-not p u (ap (p .outsider) e ∙ o) c)
-            (k .rested .done u c);
-      };
-      queue = queue-filed r y ws after (f .longer) a (k .queue) (journal-room p (k .sound) y (inv-step p (k .sound) r y (quiet-inv p r ws k) (outside r v x o few ok)));
-    }
+    let q = queue-filed r y (r .count) ws after refl (f .longer) a (k .queue) (journal-room p (k .sound) y (inv-step p (k .sound) r y (quiet-inv p r ws k) (outside r v x o few ok))) in (
+      record {
+        sound = k .sound;
+        steps = then (k .steps) (outside r v x o few ok);
+        rested = record {
+          fresh = λ n h e. ⊎-elim
+              (λ l. let g = f .longer .old n l in
+              let b = k .rested .fresh n l (sym (g .1) ∙ e) in
+              let c = ap (λ z. z .filed) (g .0) in
+              omega (arith, b, c))
+              (λ l. let b = f .longer .new n l h .1 in let c = k .sound .delay .0 in omega (arith, b, c))
+              (cases-lt n (r .count));
+          done = λ u c. done-other p u v r y f
+              (λ e. outsider-not p u (ap (p .outsider) e ∙ o) c)
+              (k .rested .done u c);
+        };
+        queue = q .0;
+      },
+      q .1,
+    )
 
 -- a swap taken up
-pub taken-up : (p : Swap) (s : Run) (after : List Waiting) → Taken-up p s after → Quiet p s after
+pub taken-up : (p : Swap) (s : Run) (after : List Waiting) → (t : Taken-up p s after) → Quiet p s after × NoneRefused (t .waits)
 taken-up p s after u =
     let d = turned p (u .sound) (fresh p) (inv-fresh p (u .sound)) (heard-fresh p) in
     let e = sym (u .filed) in
-    record {
-      sound = u .sound;
-      steps = subst (Steps p (fresh p)) e (d .steps);
-      rested = subst (Rested p) e (d .rested);
-      queue = queue-filed (fresh p) s [] after (subst (Longer (fresh p)) e (d .longer)) (u .waits) (queue-none _ _)
-          (journal-room p (u .sound) s (inv-steps p (u .sound) (fresh p) s (inv-fresh p (u .sound)) (subst (Steps p (fresh p)) e (d .steps))));
-    }
+    let steps = subst (Steps p (fresh p)) e (d .steps) in
+    let q = queue-filed (fresh p) s 0 [] after refl (subst (Longer (fresh p)) e (d .longer)) (u .waits) (queue-none _ _)
+    (journal-room p (u .sound) s (inv-steps p (u .sound) (fresh p) s (inv-fresh p (u .sound)) steps)) in
+    (record { sound = u .sound; steps = steps; rested = subst (Rested p) e (d .rested); queue = q .0 }, q .1)
 
 -- a tick
-pub tick-done : (p : Swap) (r s : Run) (ws after : List Waiting) → Ticked p r ws s after → Quiet p r ws → Quiet p s after
+pub tick-done : (p : Swap) (r s : Run) (ws after : List Waiting) → (t : Ticked p r ws s after) → Quiet p r ws → Quiet p s after × NoneRefused (t .waits)
 tick-done p r s ws after t k =
     let i = quiet-inv p r ws k in
-    let d = delivered p (t .deliveries) (k .queue) (λ n h. let b = i .lines .before n h in omega arith) in
-    let a : Steps p (fresh p) (t .heard) = steps-then (then (k .steps) (ticks r (k .rested))) (d .steps) in
-    let w = turned p (k .sound) (t .heard) (inv-steps p (k .sound) (fresh p) (t .heard) (inv-fresh p (k .sound)) a) (heard-all p r (t .heard) ws (t .left) i (k .rested) d (t .none)) in
+    let heard = handled p (t .handed) (ticked r) in
+    let d = delivered p (ticked r) (t .drained) (k .queue) (λ n h. let b = i .lines .before n h in omega arith) in
+    let a : Steps p (fresh p) heard = steps-then (then (k .steps) (ticks r (k .rested))) (d .steps) in
+    let w = turned p (k .sound) heard (inv-steps p (k .sound) (fresh p) heard (inv-fresh p (k .sound)) a) (heard-all p r heard ws (t .left) i (k .rested) d (t .fresh)) in
     let e = sym (t .filed) in
-    record {
-      sound = k .sound;
-      steps = steps-then a (subst (Steps p (t .heard)) e (w .steps));
-      rested = subst (Rested p) e (w .rested);
-      queue = queue-filed (t .heard) s (t .left) after (subst (Longer (t .heard)) e (w .longer)) (t .waits) (d .queue)
-          (journal-room p (k .sound) s (inv-steps p (k .sound) (fresh p) s (inv-fresh p (k .sound)) (steps-then a (subst (Steps p (t .heard)) e (w .steps)))));
-    }
+    let steps = steps-then a (subst (Steps p heard) e (w .steps)) in
+    let q = queue-filed heard s (r .count) (t .left) after (d .count) (subst (Longer heard) e (w .longer)) (t .waits) (d .queue)
+    (journal-room p (k .sound) s (inv-steps p (k .sound) (fresh p) s (inv-fresh p (k .sound)) steps)) in
+    (record { sound = k .sound; steps = steps; rested = subst (Rested p) e (w .rested); queue = q .0 }, q .1)

@@ -4,22 +4,24 @@ use lib.Dec.{leb}
 use mathlib.Core.Bool.{Bool, true, false, not}
 use mathlib.Core.Path.{_≡_, refl, sym, subst, ap, _∙_}
 use native.Mathlib.Omega.{arith}
-use mathlib.Core.List.{[]}
-use Rattle.protocol.specs.Law.{Timeless, bare, Single}
+use mathlib.Core.List.{List, []}
+use Rattle.protocol.specs.Law.{Timeless, bare, Single, NoneRefused}
 use Rattle.protocol.proofs.Keeps.{inv-step}
 use Rattle.protocol.proofs.Queue.{Quiet, quiet-inv, taken-up, submitted, tick-done}
 use Rattle.protocol.proofs.Room.{journal-room}
 use Rattle.protocol.proofs.Turns.{entered}
 use Rattle.protocol.specs.Calls.{Added, Call, load, submit, tick′, Answer, proper, outsiders, over, refuse, refusal, Effect, Settled, Answered, Reached, new, after}
-use Rattle.protocol.specs.Parties.{file}
-use Rattle.protocol.specs.State.{State, idle, running}
+use Rattle.protocol.specs.Parties.{file, enter}
+use Rattle.protocol.specs.State.{Transaction, Run, State, idle, running}
 use Rattle.protocol.specs.Steps.{outside}
 use Rattle.std.proofs.shelf.Tests.{not-false, leb-false}
 use Rattle.std.specs.declared.option.Option.{Option}
 use Rattle.std.specs.declared.option.Option.the-variants.{Some, None}
 use Rattle.std.specs.declared.result.Result.the-variants.{Ok, Err}
 use Rattle.swap.specs.Limits.{outsiderLines}
+use Rattle.swap.specs.Swaps.{Swap}
 use Rattle.swap.specs.declared.faults.Fault.{Fault}
+use Rattle.swap.specs.declared.records.Waiting.{Waiting}
 
 abbrev pub Lasting : State → Type 0
 Lasting (idle stock ws) = Unit {0}
@@ -30,14 +32,10 @@ not-refused : (b : Bool) (fault : Fault) (o : Option Fault) → refuse b fault o
 not-refused true fault o e = let z : _≡_ {A = ℕ} 0 1 = cc in absurd (omega arith)
 not-refused false fault o e = (refl, e)
 
--- an effect keeps it
-effect-lasts : (s : State) (c : Call) (a : Answer) (s′ : State) → Lasting s → refusal s c ≡ None → Effect s c a s′ → Lasting s′
-effect-lasts (idle stock ws) (load (Ok p)) a s′ k e h = subst Lasting (sym (h .4)) (taken-up p (h .0) (h .1) (h .2))
-effect-lasts (idle stock ws) (load (Err fault)) a s′ k e h = absurd h
-effect-lasts (idle stock ws) (submit v x) a s′ k e h = absurd h
-effect-lasts (idle stock ws) tick′ a s′ k e h = absurd h
-effect-lasts (running p r ws) (load file) a s′ k e h = absurd h
-effect-lasts (running p r ws) (submit v x) a s′ k e h =
+-- an outsider's filing that is not refused
+pub filed : (p : Swap) (r : Run) (ws left : List Waiting) (v : ℕ) (x : Transaction) → Quiet p r ws → refusal (running p r ws) (submit v x) ≡ None
+    → (a : Added (enter v x r) (r .count) (enter v x r .count) ws left) → Quiet p (enter v x r) left × NoneRefused a
+filed p r ws left v x k e =
     let e1 = not-refused (over p r) _ _ e in
     let e2 = not-refused (not (p .outsider v)) _ _ (e1 .1) in
     let e3 = not-refused (leb outsiderLines (outsiders p r)) _ _ (e2 .1) in
@@ -46,10 +44,17 @@ effect-lasts (running p r ws) (submit v x) a s′ k e h =
     let few = leb-false _ _ (e3 .0) in
     let ok = not-false _ (e4 .0) in
     let room = journal-room p (k .sound) (file v x r) (inv-step p (k .sound) r (file v x r) (quiet-inv p r ws k) (outside r v x o few ok)) in
-    let same = entered v x r room in
-    subst Lasting (sym (h .3)) (subst (λ y. Quiet p y (h .0)) (sym same)
-    (submitted p r ws (h .0) v x o few ok (subst (λ y. Added y (r .count) (y .count) ws (h .0)) same (h .1)) k))
-effect-lasts (running p r ws) tick′ a s′ k e h = subst Lasting (sym (h .4)) (tick-done p r (h .0) ws (h .1) (h .2) k)
+    subst (λ y. (a : Added y (r .count) (y .count) ws left) → Quiet p y left × NoneRefused a) (sym (entered v x r room)) (λ a. submitted p r ws left v x o few ok a k)
+
+-- an effect keeps it
+effect-lasts : (s : State) (c : Call) (a : Answer) (s′ : State) → Lasting s → refusal s c ≡ None → Effect s c a s′ → Lasting s′
+effect-lasts (idle stock ws) (load (Ok p)) a s′ k e h = subst Lasting (sym (h .4)) (taken-up p (h .0) (h .1) (h .2) .0)
+effect-lasts (idle stock ws) (load (Err fault)) a s′ k e h = absurd h
+effect-lasts (idle stock ws) (submit v x) a s′ k e h = absurd h
+effect-lasts (idle stock ws) tick′ a s′ k e h = absurd h
+effect-lasts (running p r ws) (load file) a s′ k e h = absurd h
+effect-lasts (running p r ws) (submit v x) a s′ k e h = subst Lasting (sym (h .3)) (filed p r ws (h .0) v x k e (h .1) .0)
+effect-lasts (running p r ws) tick′ a s′ k e h = subst Lasting (sym (h .4)) (tick-done p r (h .0) ws (h .1) (h .2) k .0)
 
 pub call-lasts : (s : State) (c : Call) (a : Answer) (s′ : State) → Lasting s → Answered s c a s′ → Lasting s′
 call-lasts s c a s′ k h = go (refusal s c) refl h

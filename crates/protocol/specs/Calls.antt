@@ -1,12 +1,12 @@
 -- Calls, what they answer, and what they leave.
 use Prim.Native.Nat.{ℕ, suc}
 use lib.Dec.{leb, ltb}
-use lib.ListN.{length}
 use mathlib.Core.Bool.{Bool, true, false, cond, not, _&&_}
 use mathlib.Core.List.{List, [], _∷_}
 use mathlib.Core.Path.{_≡_}
+use Rattle.mempool.specs.Calls.{Drained, Fresh, Submitted}
+use Rattle.mempool.specs.declared.refusal.Refusal.{Refusal}
 use Rattle.protocol.specs.Parties.{enter, turns}
-use Rattle.protocol.specs.Pool.{Taken, Submitted, Fresh}
 use Rattle.protocol.specs.State.{Vacant, Transaction, Open, Key, Refund, Run, State, idle, running, lastTick}
 use Rattle.protocol.specs.Stocks.{Stock, entered}
 use Rattle.protocol.specs.Tables.{countBelow}
@@ -15,9 +15,10 @@ use Rattle.std.specs.declared.option.Option.{Option}
 use Rattle.std.specs.declared.option.Option.the-variants.{Some, None}
 use Rattle.std.specs.declared.result.Result.{Result}
 use Rattle.std.specs.declared.result.Result.the-variants.{Ok, Err}
+use Rattle.std.specs.shelf.Lists.{All}
 use Rattle.swap.specs.Assets.{assetOn}
-use Rattle.swap.specs.Limits.{maxParties, outsiderLines}
-use Rattle.swap.specs.Routes.{distinct}
+use Rattle.swap.specs.Limits.{outsiderLines}
+use Rattle.swap.specs.Routes as routes
 use Rattle.swap.specs.Swaps.{Swap, Sound}
 use Rattle.swap.specs.declared.faults.Fault.{Fault}
 use Rattle.swap.specs.declared.faults.Reason.the-variants.{SwapHeld, NotRunning, NotOutsider, JournalFull, BadRequest}
@@ -39,7 +40,7 @@ allParties n (x ∷ r) = ltb x n && allParties n r
 -- the leg exists, the asset is in its ledger's range, and the key's parties are a route
 abbrev pub proper : Swap → Transaction → Bool
 proper p (Open i asset locks) = ltb i (p .legs) && assetOn (p .ledger i) asset
-proper p (Key i route) = ltb i (p .legs) && leb 1 (length route) && leb (length route) maxParties && allParties (p .parties) route && distinct route
+proper p (Key i route) = ltb i (p .legs) && routes.proper route && allParties (p .parties) route
 proper p (Refund i) = ltb i (p .legs)
 
 -- how many lines of the journal are outsiders'
@@ -98,25 +99,26 @@ refusal (running p r waiting) tick′ = refuse (over p r) (record { reason = Not
 abbrev pub waitingLine : Run → ℕ → Waiting
 waitingLine r n = record { number = n; filer = r .line n .filer; tick = r .line n .filed }
 
--- The lines from n up to m were submitted, one by one, to what waits.
+-- The lines from n up to m were submitted, one by one, to the mempool, and it answered.
 pub data Added (r : Run) (n : ℕ) : ℕ → List Waiting → List Waiting → Type 0 where
   nothing : {ws : List Waiting} → Added r n n ws ws
-  added : {m : ℕ} {ws before after : List Waiting} → Added r n m ws before → Submitted (waitingLine r m) before after → Added r n (suc m) ws after
+  added : {m : ℕ} {ws before after : List Waiting} → Added r n m ws before
+      → (answer : Result (Unit {0}) Refusal) → Submitted (waitingLine r m) answer before after → Added r n (suc m) ws after
 
--- Waiting transactions are handed out one by one and judged.
-pub data Deliveries (p : Swap) (r : Run) (ws : List Waiting) : Run → List Waiting → Type 0 where
-  nothing : Deliveries p r ws r ws
-  handed : {s : Run} {before after : List Waiting} (w : Waiting) → Deliveries p r ws s before → Taken w before after
-      → Deliveries p r ws (handle p (w .number) s) after
+-- transactions, judged one after another
+abbrev pub handled : Swap → List Waiting → Run → Run
+handled p [] r = r
+handled p (w ∷ ws) r = handled p ws (handle p (w .number) r)
 
--- A tick, from run r to s: the clock, the deliveries, and the conforming parties by number.
+-- A tick, from run r to s: the clock goes on; the mempool hands out transactions, until none that is left has waited Δ ticks;
+-- they are judged in the order in which they are handed out; then the conforming parties file by number.
 pub record Ticked (p : Swap) (r : Run) (ws : List Waiting) (s : Run) (after : List Waiting) : Type 0 where
-  pub heard : Run
+  pub handed : List Waiting
   pub left : List Waiting
-  pub deliveries : Deliveries p (ticked r) ws heard left
-  pub none : Fresh (suc (r .tick)) (p .delta) left
-  pub filed : s ≡ turns p heard
-  pub waits : Added s (heard .count) (s .count) left after
+  pub drained : Drained handed ws left
+  pub fresh : All (Fresh (suc (r .tick)) (p .delta)) left
+  pub filed : s ≡ turns p (handled p handed (ticked r))
+  pub waits : Added s (r .count) (s .count) left after
 
 -- A swap is taken up: the books are cleared and hold the plan's holdings, and the conforming parties file for tick 0.
 pub record Taken-up (p : Swap) (s : Run) (after : List Waiting) : Type 0 where

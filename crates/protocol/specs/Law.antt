@@ -5,17 +5,17 @@ use mathlib.Core.Bool.{Bool, true, false}
 use mathlib.Core.List.{List, map, []}
 use mathlib.Core.Path.{_≡_}
 use Rattle.ledgers.specs.Calls.{creditVerdict, releaseVerdict}
-use Rattle.protocol.specs.Agree.{rulesOf}
-use Rattle.protocol.specs.Calls.{fresh, Call, load, submit, tick′, Answer, Ticked, Answered, Reached, History}
-use Rattle.protocol.specs.Pool.{accepts}
+use Rattle.protocol.specs.Calls.{fresh, Call, load, submit, tick′, Answer, Added, nothing, added, Ticked, Taken-up, refusal, Answered, Reached, History}
+use Rattle.protocol.specs.Parties.{enter}
 use Rattle.protocol.specs.Promises.{Promises, Final}
-use Rattle.protocol.specs.State.{Held, Escrow, Open, Run, State, running, conforming, stands, enteringStand, idle}
+use Rattle.protocol.specs.State.{Held, Escrow, Transaction, Open, Run, State, running, conforming, stands, enteringStand, idle}
 use Rattle.protocol.specs.Steps.{Entering, Leaving, Rested, Steps}
-use Rattle.protocol.specs.Stocks.{content, entered}
+use Rattle.protocol.specs.Stocks.{entered}
 use Rattle.protocol.specs.Verdicts.{joined, properLocks, judged, pending}
 use Rattle.std.specs.declared.option.Option.the-variants.{Some, None}
 use Rattle.std.specs.declared.result.Result.the-variants.{Ok, Err}
 use Rattle.std.specs.shelf.Lists.{All}
+use Rattle.swap.specs.Assets.{rulesOf}
 use Rattle.swap.specs.Limits.{maxLines, maxParties, setBits}
 use Rattle.swap.specs.Routes.{mem, distinct, Joined}
 use Rattle.swap.specs.Sets.{Exactly}
@@ -47,7 +47,7 @@ abbrev pub Total : Type 0
 Total = (s : State) → Reached s → (c : Call) → Legible c → (a : Answer) × (s′ : State) × Answered s c a s′
 
 -- A call has one answer, and but for a tick one effect; only the order in which transactions wait is open.
--- (A tick's effect follows from what is handed out: the run after it is what the parties make of the run that has heard it.)
+-- (A tick's effect follows from what is handed out, and in which order: see Ticked.)
 abbrev pub Timeless : Call → Type 0
 Timeless (load file) = Unit {0}
 Timeless (submit v x) = Unit {0}
@@ -90,9 +90,7 @@ pub record Never (p : Swap) (r : Run) : Type 0 where
   -- an open by a conforming party is never refused
   pub taken : (n i asset : ℕ) (locks : ℕ → Bool) → n < r .count → r .verdict n ≡ pending → r .line n .filed < r .tick
       → conforming p (r .line n .filer) ≡ true → r .line n .transaction ≡ Open i asset locks → judged p r (r .line n) ≡ 0
-  -- a release never meets an empty account
-  pub full : (i : ℕ) → i < p .legs → r .escrow i .phase ≡ Held → 0 < content (p .ledger i) (r .stock) i
-  -- so the book accepts it, to whichever party it goes
+  -- a release never meets an empty account: the book accepts it, to whichever party it goes
   pub released : (i v : ℕ) → i < p .legs → v < p .parties → r .escrow i .phase ≡ Held
       → releaseVerdict (rulesOf (p .ledger i)) i v (r .stock (p .ledger i)) ≡ Ok tt
   -- the journal never overflows
@@ -101,16 +99,25 @@ pub record Never (p : Swap) (r : Run) : Type 0 where
 abbrev pub Nevers : Type 0
 Nevers = (p : Swap) (r : Run) → Sound p → Steps p (fresh p) r → Never p r
 
--- What waits is what has no verdict: each once, with its filer and tick. So none was refused, and none will be while the journal has room.
+-- What waits is what has no verdict: each once, with its filer and tick.
 pub record Waits (r : Run) (ws : List Waiting) : Type 0 where
   pub known : All (λ w. (w .number < r .count) × (r .verdict (w .number) ≡ pending) × (r .line (w .number) .filer ≡ w .filer) × (r .line (w .number) .filed ≡ w .tick)) ws
   pub all : (n : ℕ) → n < r .count → r .verdict n ≡ pending → mem n (map (λ w. w .number) ws) ≡ true
   pub apart : distinct (map (λ w. w .number) ws) ≡ true
   pub few : length ws ≤ r .count
-  pub accepted : r .count < maxLines → accepts (r .count) ws ≡ true
 
-abbrev pub Pools : Type 0
-Pools = (p : Swap) (r : Run) (ws : List Waiting) → Reached (running p r ws) → Waits r ws
+-- every line was accepted
+abbrev pub NoneRefused : {r : Run} {n m : ℕ} {ws after : List Waiting} → Added r n m ws after → Type 0
+NoneRefused nothing = Unit {0}
+NoneRefused (added before answer _) = NoneRefused before × (answer ≡ Ok tt)
+
+-- The mempool never refuses: neither when a swap is taken up, nor when an outsider files, nor in a tick.
+pub record Pools : Type 0 where
+  pub waits : (p : Swap) (r : Run) (ws : List Waiting) → Reached (running p r ws) → Waits r ws
+  pub begun : (p : Swap) (s : Run) (after : List Waiting) → (t : Taken-up p s after) → NoneRefused (t .waits)
+  pub filed : (p : Swap) (r : Run) (ws after : List Waiting) (v : ℕ) (x : Transaction) → Reached (running p r ws)
+      → refusal (running p r ws) (submit v x) ≡ None → (a : Added (enter v x r) (r .count) (enter v x r .count) ws after) → NoneRefused a
+  pub ticked : (p : Swap) (r s : Run) (ws after : List Waiting) → Reached (running p r ws) → (t : Ticked p r ws s after) → NoneRefused (t .waits)
 
 -- The books never refuse an accepted plan's holdings: entered one after another, each is accepted by the book of its ledger.
 abbrev pub Holdings : Type 0

@@ -1,6 +1,4 @@
-pub mod Agree
 pub mod Tables
-pub mod Pool
 pub mod Stocks
 pub mod State
 pub mod Verdicts
@@ -10,4 +8,3 @@ pub mod Calls
 pub mod Promises
 pub mod Law
 pub mod Courses
-pub mod Pools

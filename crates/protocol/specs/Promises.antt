@@ -4,7 +4,7 @@ use lib.Dec.{eqb}
 use mathlib.Core.Bool.{Bool, true, cond, not, _&&_, _||_}
 use mathlib.Core.Path.{_≡_}
 use Rattle.protocol.specs.State.{isVacant, isPaid, isBack, Escrow, Run, State, idle, running, conforming, stands, refundTick, lastTick}
-use Rattle.swap.specs.Assets.{worth}
+use Rattle.swap.specs.Assets.{rulesOf, worth}
 use Rattle.swap.specs.Swaps.{Swap, start, sumBelow}
 use Rattle.swap.specs.declared.records.Holder.the-variants.{Party}
 
@@ -20,21 +20,21 @@ module _ (p : Swap) where
   -- what the legs that party v paid have of a unit on a ledger
   abbrev pub spent : (ℕ → Escrow) → ℕ → ℕ → ℕ → ℕ
   spent escrow v l u =
-      sumBelow (p .legs) (λ i. cond (eqb (p .payer i) v && eqb (p .ledger i) l && isPaid (escrow i .phase)) (worth l (escrow i .asset) u) 0)
+      sumBelow (p .legs) (λ i. cond (eqb (p .payer i) v && eqb (p .ledger i) l && isPaid (escrow i .phase)) (worth (rulesOf l) (escrow i .asset) u) 0)
 
   -- by how much a party's stock has fallen since tick 0, when it had its holdings
   abbrev pub fallen : Run → ℕ → ℕ → ℕ → ℕ
   fallen r v l u = start p v l u - r .stock l (Party v) u
 
   pub record Kept (r : Run) : Type 0 where
-    -- (a) if every party conforms, each leg is paid in full once tick 2·W·Δ is done
+    -- if every party conforms, each leg is paid in full once tick 2·W·Δ is done
     pub complete : ((v : ℕ) → v < p .parties → conforming p v ≡ true) → refundTick p ≤ r .tick
         → (i : ℕ) → i < p .legs → paidInFull i (r .escrow i) ≡ true
-    -- (b) from then on a conforming party that paid any leg has been paid in full on every leg due to it
+    -- from then on a conforming party that paid any leg has been paid in full on every leg due to it
     pub atomic : (v : ℕ) → conforming p v ≡ true → refundTick p ≤ r .tick
         → (j : ℕ) → j < p .legs → p .payer j ≡ v → isPaid (r .escrow j .phase) ≡ true
         → (i : ℕ) → i < p .legs → p .receiver i ≡ v → paidInFull i (r .escrow i) ≡ true
-    -- (c) once tick (2·W+1)·Δ is done, each leg that a conforming party put up is paid or back
+    -- once tick (2·W+1)·Δ is done, each leg that a conforming party put up is paid or back
     pub ended : (v : ℕ) → conforming p v ≡ true → lastTick p ≤ r .tick
         → (i : ℕ) → i < p .legs → p .payer i ≡ v → putUp (r .escrow i) ≡ true
         → (isPaid (r .escrow i .phase) || isBack (r .escrow i .phase)) ≡ true

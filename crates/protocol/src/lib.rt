@@ -1,8 +1,6 @@
 // The protocol of a swap, and the law that is proved of it. The model is in specs/, the proof in proofs/.
 // Each function does nothing: its contract is a theorem, so that the check asks for its proof.
-ghost use Rattle.protocol.specs.Agree.{BooksAgree};
 ghost use Rattle.protocol.specs.Law.{Law, Histories, Total, Single, Tests, Rules, Begins, Nevers, Pools, Holdings};
-ghost use Rattle.protocol.specs.Pools.{PoolsAgree, TicksFollow};
 ghost use Rattle.swap.specs.Swaps.{Swap};
 
 // After every call the promises hold: if all conform each leg is paid in full; a conforming party that paid has been paid in
@@ -35,15 +33,4 @@ pub fn nothing_is_refused()
     ensures waiting { λ _. ⌜ Pools ⌝ }
     ensures holdings { λ _. ⌜ Holdings ⌝ }
     ensures begins { λ _. ⌜ Begins ⌝ }
-{}
-
-// The model moves assets as the books do.
-pub fn books_agree()
-    ensures { λ _. ⌜ BooksAgree ⌝ }
-{}
-
-// The model's mempool is every mempool, and the run after a tick follows from what was handed out, in that order.
-pub fn mempools_agree()
-    ensures submits { λ _. ⌜ PoolsAgree ⌝ }
-    ensures ticks { λ _. ⌜ TicksFollow ⌝ }
 {}

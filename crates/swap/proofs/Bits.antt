@@ -8,7 +8,7 @@ use mathlib.Core.Path.{_≡_, refl, sym, ap, _∙_}
 use native.Mathlib.Nat.{div-eq-of-lt, zero-div, pow-suc}
 use native.Mathlib.Omega.{arith}
 use Rattle.std.proofs.shelf.Bits.{pow-pos, shr-shr, leading-top, le-div, div-below, shr-le}
-use Rattle.std.proofs.shelf.Tests.{both-ways, cases-lt, eqb-true, eqb-false, cases-bool}
+use Rattle.std.proofs.shelf.Tests.{both-ways, cases-lt, eqb-true, eqb-false}
 use Rattle.swap.specs.Sets.{member, Exactly}
 
 -- what is shifted out to nothing has no member at or above the shift

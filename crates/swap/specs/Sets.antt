@@ -2,7 +2,6 @@
 use Prim.Native.Nat.{ℕ, _/_, _%_, _^_}
 use lib.Dec.{eqb}
 use mathlib.Core.Bool.{Bool, true, false}
-use mathlib.Core.Path.{_≡_}
 
 abbrev pub member : ℕ → ℕ → Bool
 member set p = eqb ((set / 2 ^ p) % 2) 1

@@ -3,8 +3,8 @@ use Prim.Native.Nat.{ℕ, zero, suc, _+_, _≤_, _<_}
 use lib.Dec.{eqb}
 use mathlib.Core.Bool.{Bool, true, cond, _&&_}
 use mathlib.Core.Path.{_≡_}
-use Rattle.swap.specs.Assets.{worth, holdsCoins, assetOn}
-use Rattle.swap.specs.Limits.{minParties, maxParties, maxLegs, maxHoldings, maxDelta, fileLedgers, coinCeiling}
+use Rattle.swap.specs.Assets.{rulesOf, worth, assetOn}
+use Rattle.swap.specs.Limits.{minParties, maxParties, maxLegs, maxDelta, fileLedgers}
 use Rattle.swap.specs.Routes.{Connected, Led, Span}
 
 pub record Swap : Type 0 where
@@ -38,20 +38,16 @@ sumBelow (suc n) f = sumBelow n f + f n
 -- what a party holds of a unit on a ledger before the swap
 abbrev pub start : Swap → ℕ → ℕ → ℕ → ℕ
 start s party ledger unit =
-    sumBelow (s .holdings) (λ k. cond (eqb (s .holder k) party && eqb (s .heldOn k) ledger) (worth ledger (s .held k) unit) 0)
+    sumBelow (s .holdings) (λ k. cond (eqb (s .holder k) party && eqb (s .heldOn k) ledger) (worth (rulesOf ledger) (s .held k) unit) 0)
 
 -- what a party's legs on a ledger are worth in a unit
 abbrev pub owed : Swap → ℕ → ℕ → ℕ → ℕ
 owed s party ledger unit =
-    sumBelow (s .legs) (λ i. cond (eqb (s .payer i) party && eqb (s .ledger i) ledger) (worth ledger (s .asset i) unit) 0)
+    sumBelow (s .legs) (λ i. cond (eqb (s .payer i) party && eqb (s .ledger i) ledger) (worth (rulesOf ledger) (s .asset i) unit) 0)
 
 -- what all holdings on a ledger are worth in a unit
 abbrev pub total : Swap → ℕ → ℕ → ℕ
-total s ledger unit = sumBelow (s .holdings) (λ k. cond (eqb (s .heldOn k) ledger) (worth ledger (s .held k) unit) 0)
-
--- the most that a ledger takes of a unit: every party's largest coin holding, or one title
-abbrev pub ceiling : ℕ → ℕ
-ceiling ledger = cond (holdsCoins ledger) coinCeiling 1
+total s ledger unit = sumBelow (s .holdings) (λ k. cond (eqb (s .heldOn k) ledger) (worth (rulesOf ledger) (s .held k) unit) 0)
 
 -- What an accepted plan gives.
 pub record Sound (s : Swap) : Type 0 where
@@ -74,4 +70,4 @@ pub record Sound (s : Swap) : Type 0 where
   pub leaders : (p : ℕ) → s .leader p ≡ true → p < s .parties
   pub leads : (p : ℕ) × (s .leader p ≡ true)
   -- no ledger is asked to take more of a unit than it can
-  pub fits : (l u : ℕ) → l < fileLedgers → total s l u ≤ ceiling l
+  pub fits : (l u : ℕ) → l < fileLedgers → total s l u ≤ rulesOf l .ceiling

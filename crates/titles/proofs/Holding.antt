@@ -19,7 +19,6 @@ use Rattle.std.specs.declared.option.Option.{Option}
 use Rattle.std.specs.declared.option.Option.the-variants.{None, Some}
 use Rattle.std.specs.declared.result.Result.the-variants.{Ok, Err}
 use Rattle.swap.specs.Limits.{maxLegs, maxParties, titles}
-use Rattle.swap.specs.Swaps.{sumBelow}
 use Rattle.swap.specs.declared.records.Holder.{Holder}
 use Rattle.swap.specs.declared.records.Holder.the-variants.{Party, Escrow}
 use Rattle.titles.specs.Counts.{held}

@@ -1,4 +1,3 @@
-use native.Mathlib.Omega.{arith}
 use Rattle.std.proofs.shelf.Lists.{getD-read}
 use Rattle.mempool.proofs.Waits.{taken-remove, oldest-read}
 use Rattle.mempool.proofs.queue.Queue.remove.Needs as need

@@ -1,12 +1,8 @@
-use Prim.Native.Nat.{ℕ, _/_, _^_, _<_}
-use lib.Dec.{eqb, leb}
-use mathlib.Core.Bool.{Bool, true, false}
-use mathlib.Core.Path.{_≡_, refl, sym, subst}
+use Prim.Native.Nat.{_^_, _<_}
 use native.Mathlib.Omega.{arith}
-use Rattle.std.proofs.shelf.Tests.{le-leb, eqb-true, eqb-false}
+use Rattle.std.proofs.shelf.Tests.{le-leb}
 use Rattle.swap.proofs.Bits.{within, short, tells}
 use Rattle.swap.proofs.sets.PartySet.within.Needs as need
-use Rattle.swap.specs.Sets.{Exactly, member}
 
 pub returns-then-parties-ge-SET-BITS : need.returns-then-parties-ge-SET-BITS
 returns-then-parties-ge-SET-BITS c =
