@@ -136,34 +136,8 @@ mod tests {
     use std::test::*;
 
     // Terms of three parties with leader 0, and each party's 5 coins on ledger 0.
-    const OPENING: [u8; 26] = [
-        2,
-        3,
-        1,
-        0,
-        1,
-        3,
-        0,
-        0,
-        0,
-        0,
-        0,
-        5,
-        3,
-        0,
-        1,
-        0,
-        0,
-        0,
-        5,
-        3,
-        0,
-        2,
-        0,
-        0,
-        0,
-        5,
-    ];
+    const OPENING: [u8; 26] = *b"\x02\x03\x01\x00\x01\
+        \x03\x00\x00\x00\x00\x00\x05\x03\x00\x01\x00\x00\x00\x05\x03\x00\x02\x00\x00\x00\x05";
 
     // Why a plan of 5 coins from each payer to each receiver is refused.
     fn refused(heap: Global, legs: &[(u8, u8)]) -> Result<Fault, Fail> {

@@ -105,87 +105,15 @@ mod tests {
     use swap::records::LegPartialEq;
     use swap::records::TermsPartialEq;
 
-    // terms, two holdings, two legs
-    const PLAIN: [u8; 35] = [
-        2,
-        2,
-        1,
-        0,
-        1,
-        3,
-        0,
-        0,
-        0,
-        0,
-        0,
-        5,
-        3,
-        4,
-        1,
-        0,
-        0,
-        0,
-        7,
-        4,
-        0,
-        1,
-        0,
-        0,
-        0,
-        0,
-        5,
-        4,
-        1,
-        0,
-        4,
-        0,
-        0,
-        0,
-        7,
-    ];
+    // terms; two holdings; two legs
+    const PLAIN: [u8; 35] = *b"\x02\x02\x01\x00\x01\
+        \x03\x00\x00\x00\x00\x00\x05\x03\x04\x01\x00\x00\x00\x07\
+        \x04\x00\x01\x00\x00\x00\x00\x05\x04\x01\x00\x04\x00\x00\x00\x07";
 
-    const HEADED: [u8; 40] = [
-        1,
-        0,
-        0,
-        0,
-        42,
-        2,
-        2,
-        1,
-        0,
-        1,
-        3,
-        0,
-        0,
-        0,
-        0,
-        0,
-        5,
-        3,
-        4,
-        1,
-        0,
-        0,
-        0,
-        7,
-        4,
-        0,
-        1,
-        0,
-        0,
-        0,
-        0,
-        5,
-        4,
-        1,
-        0,
-        4,
-        0,
-        0,
-        0,
-        7,
-    ];
+    // the same behind a heading
+    const HEADED: [u8; 40] = *b"\x01\x00\x00\x00\x2A\x02\x02\x01\x00\x01\
+        \x03\x00\x00\x00\x00\x00\x05\x03\x04\x01\x00\x00\x00\x07\
+        \x04\x00\x01\x00\x00\x00\x00\x05\x04\x01\x00\x04\x00\x00\x00\x07";
 
     #[test]
     fn two_parties(rt: LibcRuntime) -> Result<(), Fail> {
