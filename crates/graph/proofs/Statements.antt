@@ -51,7 +51,7 @@ module _ (legs : List Leg) (n : ℕ) where
   within x [] j = tt
   within x (y ∷ s) j = (j .0 .2, within y s (j .2))
 
-  plain : (r : List ℕ) → Joined (Among n legs) r → Joined (Pays legs) r
+  pub plain : (r : List ℕ) → Joined (Among n legs) r → Joined (Pays legs) r
   plain = joined-map (Among n legs) (Pays legs) (λ x y p. p .0)
 
   among : (x : ℕ) (s : List ℕ) → Joined (Pays legs) (x ∷ s) → All (λ q. q < n) (x ∷ s) → Joined (Among n legs) (x ∷ s)

@@ -6,6 +6,7 @@ use mathlib.Core.Logic.{inl, inr, ⊎-elim}
 use mathlib.Core.Path.{_≡_, subst}
 use native.Mathlib.Omega.{arith}
 use Rattle.graph.proofs.Joins.{joined-map, reaches-map, cycle-map}
+use Rattle.graph.proofs.Statements.{plain}
 use Rattle.graph.specs.Graphs.{Pays, Among, count, Longest, Table, Spanned, Connects, Leads, Inside}
 use Rattle.std.specs.declared.option.Option.{Option}
 use Rattle.std.specs.declared.option.Option.the-variants.{Some, None}
@@ -23,9 +24,6 @@ module _ (legs : List Leg) (n : ℕ) (inside : Inside n legs) where
   tos : (r : List ℕ) → Joined (Pays legs) r → Joined (Among n legs) r
   tos = joined-map (Pays legs) (Among n legs) to
 
-  froms : (r : List ℕ) → Joined (Among n legs) r → Joined (Pays legs) r
-  froms = joined-map (Among n legs) (Pays legs) from
-
   reach-to : (x y : ℕ) → Reaches (Pays legs) x y → Reaches (Among n legs) x y
   reach-to = reaches-map (Pays legs) (Among n legs) to
 
@@ -34,13 +32,13 @@ module _ (legs : List Leg) (n : ℕ) (inside : Inside n legs) where
 
   longest-from : (x y w : ℕ) → Longest (Among n legs) x y w → Longest (Pays legs) x y w
   longest-from x y w l = record {
-    some = λ h. let s = l .some h in (s .0, froms (x ∷ s .0) (s .1), s .2, s .3);
+    some = λ h. let s = l .some h in (s .0, plain legs n (x ∷ s .0) (s .1), s .2, s .3);
     most = λ r j. l .most r (tos (x ∷ r) j);
   }
 
   span-from : (w : ℕ) → Span (Among n legs) n w → Span (Pays legs) n w
   span-from w s = record {
-    some = (s .some .0, froms (s .some .0) (s .some .1), s .some .2, s .some .3);
+    some = (s .some .0, plain legs n (s .some .0) (s .some .1), s .some .2, s .some .3);
     most = λ r j. s .most r (tos r j);
   }
 

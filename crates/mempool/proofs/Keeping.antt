@@ -6,10 +6,10 @@ use lib.ListN.{length}
 use mathlib.Core.Bool.{Bool, true, false, not, _&&_, _||_}
 use mathlib.Core.List.{List, [], _∷_, _++_}
 use mathlib.Core.Path.{_≡_, refl, sym, ap, subst, _∙_}
-use mathlib.Core.Logic.{⊎-elim}
-use Rattle.std.proofs.shelf.Tests.{eq-eqb, ne-eqb, cases-eq, or-left, or-parts, and-parts, and-from, not-true, not-from-false, both-ways}
+use Rattle.std.proofs.shelf.Tests.{eq-eqb, or-left, or-parts, and-parts, and-from, not-true, not-from-false, both-ways}
 use Rattle.std.specs.shelf.Lists.{All}
 use Rattle.std.specs.declared.option.Option.the-variants.{Some, None}
+use Rattle.swap.proofs.Tests.{eqb-comm}
 use Rattle.swap.specs.Routes.{distinct}
 use Rattle.swap.specs.declared.records.Waiting.{Waiting}
 use Rattle.mempool.specs.Calls.{Taken, Handed, Fresh, Drained, numbers, waits}
@@ -51,9 +51,6 @@ pub taken-waits : {w : Waiting} {ws rest : List Waiting} (n : ℕ) → Taken w w
 taken-waits n here = refl
 taken-waits {w} n (later {v} {ws} {rest} t) = ap (λ b. eqb n (v .number) || b) (taken-waits n t) ∙ swap-or (eqb n (v .number)) (eqb n (w .number)) (waits n rest)
 
-eqb-sym : (m n : ℕ) → eqb m n ≡ eqb n m
-eqb-sym m n = ⊎-elim (λ e. eq-eqb m n e ∙ sym (eq-eqb n m (sym e))) (λ e. ne-eqb m n e ∙ sym (ne-eqb n m (λ h. e (sym h)))) (cases-eq m n)
-
 swap-and : (a b c d : Bool) → (not (a || b) && (not c && d)) ≡ (not (a || c) && (not b && d))
 swap-and true b c d = refl
 swap-and false true true d = refl
@@ -65,7 +62,7 @@ swap-and false false false d = refl
 pub taken-apart : {w : Waiting} {ws rest : List Waiting} → Taken w ws rest → distinct (numbers ws) ≡ (not (waits (w .number) rest) && distinct (numbers rest))
 taken-apart here = refl
 taken-apart {w} (later {v} {ws} {rest} t) =
-    let among = taken-waits (v .number) t ∙ ap (λ b. b || waits (v .number) rest) (eqb-sym (v .number) (w .number)) in
+    let among = taken-waits (v .number) t ∙ ap (λ b. b || waits (v .number) rest) (eqb-comm (v .number) (w .number)) in
     ap (λ b. not b && distinct (numbers ws)) among ∙ ap (λ b. not (eqb (w .number) (v .number) || waits (v .number) rest) && b) (taken-apart t) ∙ swap-and (eqb (w .number) (v .number)) (waits (v .number) rest) (waits (w .number) rest) (distinct (numbers rest))
 
 pub taken-here : {w : Waiting} {ws rest : List Waiting} → Taken w ws rest → waits (w .number) ws ≡ true

@@ -10,6 +10,7 @@ use native.Mathlib.Nat.{le-trans, le-of-eq}
 use native.Mathlib.Omega.{arith}
 use Rattle.coverage.proofs.Below.{any-below, none-below}
 use Rattle.coverage.specs.Coverage.{covered, coinsHeld, coinsOwed, coinsOf, holdsTitle, isTitle, namesTitle, names}
+use Rattle.swap.proofs.Tests.{eqb-comm}
 use Rattle.swap.proofs.Sums.{sum-zero, sum-le, sum-term, sum-swap, sum-most, sum-one}
 use Rattle.std.proofs.shelf.Tests.{cases-eq, eq-eqb, ne-eqb, eqb-true, cond-true, cond-false, and-parts, and-from, leb-true, not-true, both-ways}
 use Rattle.swap.specs.Assets.{worth, titleRules, rulesIf, rulesOf, holdsCoins, assetOn}
@@ -25,13 +26,6 @@ both : (x y : Bool) → ((x ≡ true) × (y ≡ true)) ⊎ ((x && y) ≡ false)
 both true true = inl (refl, refl)
 both true false = inr refl
 both false y = inr refl
-
-eqb-comm : (a b : ℕ) → eqb a b ≡ eqb b a
-eqb-comm a b =
-    ⊎-elim
-    (λ e. eq-eqb a b e ∙ sym (eq-eqb b a (sym e)))
-    (λ ne. ne-eqb a b ne ∙ sym (ne-eqb b a (λ e. ne (sym e))))
-    (cases-eq a b)
 
 nothing : (t : Bool) → _≡_ {A = ℕ} (cond t 0 0) 0
 nothing true = refl

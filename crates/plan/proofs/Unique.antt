@@ -1,20 +1,19 @@
 -- A content has one answer.
 use Prim.Native.Nat.{ℕ, _<_}
-use lib.Dec.{eqb}
-use mathlib.Core.Bool.{true, false}
-use mathlib.Core.List.{List, [], _∷_}
+use mathlib.Core.Bool.{false}
+use mathlib.Core.List.{List, _∷_}
 use mathlib.Core.Logic.{_⊎_, ⊎-elim}
-use mathlib.Core.Path.{_≡_, refl, sym, ap, subst}
+use mathlib.Core.Path.{_≡_, ap}
 use native.Mathlib.Omega.{arith}
+use Rattle.graph.proofs.Joins.{all-mem}
 use Rattle.coverage.specs.Coverage.{Uncovered, covered}
 use Rattle.graph.specs.Graphs.{Pays, CutOff, Leaderless, Unled}
 use Rattle.plan.specs.Check.{fault, Covered, Joins, Leads, Accepted, Refused, uncovered, cutOff, unled, Checked}
-use Rattle.std.proofs.shelf.Tests.{both-ways, cases-order, eqb-true, or-cases}
+use Rattle.std.proofs.shelf.Tests.{both-ways, cases-order}
 use Rattle.std.specs.declared.option.Option.the-variants.{Some}
 use Rattle.std.specs.declared.result.Result.{Result}
 use Rattle.std.specs.declared.result.Result.the-variants.{Ok, Err}
-use Rattle.std.specs.shelf.Lists.{All}
-use Rattle.swap.specs.Routes.{mem, Reaches, Span}
+use Rattle.swap.specs.Routes.{Reaches, Span}
 use Rattle.swap.specs.Sets.{member}
 use Rattle.swap.specs.declared.faults.Fault.{Fault}
 use Rattle.swap.specs.declared.faults.Reason.the-variants.{NotCovered, NotConnected, NoLeader}
@@ -34,12 +33,6 @@ span-one P n w v s t =
     let x = s .some .3 in
     let y = t .some .3 in
     omega arith
-
--- what holds of all on a route holds of each one on it
-pub all-mem : (P : ℕ → Type 0) (p : ℕ) (r : List ℕ) → All P r → mem p r ≡ true → P p
-all-mem P p [] a m = absurd (both-ways false refl m)
-all-mem P p (x ∷ r) a m =
-    ⊎-elim (λ e. subst P (sym (eqb-true p x e)) (a .0)) (λ e. all-mem P p r (a .1) e) (or-cases (eqb p x) (mem p r) m)
 
 module _ (terms : Terms) (holdings : List Holding) (legs : List Leg) where
   -- where all is well nobody is named

@@ -3,7 +3,6 @@ use Prim.Native.Nat.{ℕ, zero, suc, _+_, _-_, _≤_, _<_}
 use lib.Dec.{eqb, leb}
 use mathlib.Core.Bool.{Bool, true, false, cond, not, _&&_, _||_}
 use mathlib.Core.List.{List}
-use mathlib.Core.Logic.{⊎-elim}
 use mathlib.Core.Path.{_≡_, refl, sym, ap, _∙_}
 use native.Mathlib.Omega.{arith}
 use Rattle.ledgers.proofs.LawsHold.{worth-le, accepted-deposit, deposit-ok}
@@ -11,15 +10,17 @@ use Rattle.ledgers.specs.Calls.{Answer, depositVerdict}
 use Rattle.ledgers.specs.Stocks.{Lawful, content}
 use Rattle.protocol.proofs.Basics.{Fails, put-case}
 use Rattle.protocol.proofs.Invariants.{Signed, Fair, Books, gone, come}
+use Rattle.protocol.proofs.Standing.{vacant as is-vacant, held as is-held}
 use Rattle.protocol.proofs.Sums.{sum-put}
 use Rattle.swap.proofs.Sums.{sum-zero, sum-le, sum-term, sum-less}
+use Rattle.swap.proofs.Tests.{eqb-comm}
 use Rattle.protocol.specs.Calls.{fresh}
 use Rattle.protocol.specs.Promises.{spent, fallen}
 use Rattle.protocol.specs.State.{Phase, Vacant, Held, Paid, Back, isVacant, isHeld, isPaid, Escrow, Transaction, Open, Key, Refund, legOf, Run, stands}
 use Rattle.protocol.specs.Stocks.{Stock, refuses, credit, deposit, release, entered}
 use Rattle.protocol.specs.Tables.{put}
 use Rattle.protocol.specs.Verdicts.{tests, effect, allOpened, ends}
-use Rattle.std.proofs.shelf.Tests.{eqb-true, eqb-false, eq-eqb, ne-eqb, ltb-true, leb-true, and-parts, cases-eq, not-false, cond-true, false≢true}
+use Rattle.std.proofs.shelf.Tests.{eqb-true, eqb-false, eq-eqb, ne-eqb, ltb-true, leb-true, and-parts, not-false, cond-true, false≢true}
 use Rattle.std.specs.Results.{isErr}
 use Rattle.std.specs.declared.option.Option.{Option}
 use Rattle.std.specs.declared.option.Option.the-variants.{Some}
@@ -80,9 +81,6 @@ full p escrow stock b i h held on =
     omega arith
 
 -- Moves
-
-eqb-comm : (a b : ℕ) → eqb a b ≡ eqb b a
-eqb-comm a b = ⊎-elim (λ e. rw e refl) (λ ne. ne-eqb a b ne ∙ sym (ne-eqb b a (λ q. ne (sym q)))) (cases-eq a b)
 
 -- A count of party P on ledger L changes from y to x, and d is by how much; no other party's does, and none on another ledger.
 one-place : (R : ℕ → ℕ → Type 0) (l L v P x y d : ℕ) → (l ≡ L → v ≡ P → R x d) → R y 0
@@ -222,18 +220,6 @@ enough p sound escrow stock b i h vacant planned =
 not-err : (a : Answer) → isErr a ≡ false → a ≡ Ok tt
 not-err (Ok _) h = refl
 not-err (Err e) h = absurd (false≢true (sym h))
-
-is-vacant : (x : Phase) → isVacant x ≡ true → x ≡ Vacant
-is-vacant Vacant h = refl
-is-vacant Held h = absurd (false≢true h)
-is-vacant Paid h = absurd (false≢true h)
-is-vacant Back h = absurd (false≢true h)
-
-is-held : (x : Phase) → isHeld x ≡ true → x ≡ Held
-is-held Vacant h = absurd (false≢true h)
-is-held Held h = refl
-is-held Paid h = absurd (false≢true h)
-is-held Back h = absurd (false≢true h)
 
 -- what an escrow of leg k takes from a party and brings it
 abbrev takes : Swap → ℕ → ℕ → ℕ → ℕ → Escrow → ℕ

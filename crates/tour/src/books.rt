@@ -92,7 +92,7 @@ fn show<K: Kind, B: Ledgers<K>>(
     show_balance::<K, B>(rt, book, "after clear party 2", Holder::Party(2), unit)
 }
 
-pub fn show_books(rt: &LibcRuntime) -> io::Result<()> {
+pub(crate) fn show_books(rt: &LibcRuntime) -> io::Result<()> {
     println!(rt, "a book of coins: 100000000 of unit 0")?;
     let mut coins = coin_book();
     show::<Coins, CoinBook>(rt, &mut coins, 100_000_000, 0)?;

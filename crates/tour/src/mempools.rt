@@ -124,7 +124,7 @@ fn rehearse<M: Mempool>(rt: &LibcRuntime, pool: &mut M) -> Result<(), AnyError>
     Ok(())
 }
 
-pub fn show_mempools(rt: &LibcRuntime) -> Result<(), AnyError> {
+pub(crate) fn show_mempools(rt: &LibcRuntime) -> Result<(), AnyError> {
     println!(rt, "a prompt mempool, delta {DELTA}")?;
     rehearse(rt, &mut Prompt::new(rt.alloc())?)?;
     println!(rt, "a slow mempool, delta {DELTA}")?;
