@@ -17,7 +17,7 @@ use Rattle.std.specs.declared.result.Result.the-variants.{Ok}
 use Rattle.std.specs.shelf.Lists.{sum}
 use Rattle.swap.specs.Assets.{coinAsset}
 use Rattle.swap.specs.Limits.{coinCeiling, maxLegs, maxParties}
-use Rattle.swap.specs.Swaps.{sumBelow}
+use Rattle.swap.specs.Below.{sumBelow}
 use Rattle.swap.specs.declared.records.Holder.{Holder}
 use Rattle.swap.specs.declared.records.Holder.the-variants.{Party, Escrow}
 

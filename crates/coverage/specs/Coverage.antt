@@ -1,22 +1,17 @@
 -- When a leg is covered by its payer's holdings.
-use Prim.Native.Nat.{ℕ, zero, suc, _<_}
+use Prim.Native.Nat.{ℕ, suc, _<_}
 use lib.Dec.{eqb, leb}
 use lib.ListN.{length}
-use mathlib.Core.Bool.{Bool, true, false, cond, not, _&&_, _||_}
+use mathlib.Core.Bool.{Bool, true, false, cond, not, _&&_}
 use mathlib.Core.List.{List}
 use mathlib.Core.Path.{_≡_}
 use Rattle.std.specs.declared.option.Option.{Option}
 use Rattle.std.specs.declared.option.Option.the-variants.{Some, None}
 use Rattle.swap.specs.Assets.{holdsCoins}
-use Rattle.swap.specs.Swaps.{sumBelow}
+use Rattle.swap.specs.Below.{sumBelow, someBelow}
 use Rattle.swap.specs.Views.{legAt, holdingAt}
 use Rattle.swap.specs.declared.records.Holding.{Holding}
 use Rattle.swap.specs.declared.records.Leg.{Leg}
-
--- does the test hold of a number below n?
-abbrev pub anyBelow : ℕ → (ℕ → Bool) → Bool
-anyBelow zero f = false
-anyBelow (suc n) f = anyBelow n f || f n
 
 -- the coins that a party holds on a ledger
 abbrev pub coinsOf : Holding → ℕ → ℕ → ℕ
@@ -37,14 +32,14 @@ abbrev pub isTitle : Holding → ℕ → ℕ → ℕ → Bool
 isTitle h party ledger title = eqb (h .party) party && (eqb (h .ledger) ledger && eqb (h .asset) title)
 
 abbrev pub holdsTitle : List Holding → ℕ → ℕ → ℕ → Bool
-holdsTitle holdings party ledger title = anyBelow (length holdings) (λ k. isTitle (holdingAt holdings k) party ledger title)
+holdsTitle holdings party ledger title = someBelow (length holdings) (λ k. isTitle (holdingAt holdings k) party ledger title)
 
 -- does one of the first n legs name a title on a ledger?
 abbrev pub names : Leg → ℕ → ℕ → Bool
 names leg ledger title = eqb (leg .ledger) ledger && eqb (leg .asset) title
 
 abbrev pub namesTitle : List Leg → ℕ → ℕ → ℕ → Bool
-namesTitle legs n ledger title = anyBelow n (λ j. names (legAt legs j) ledger title)
+namesTitle legs n ledger title = someBelow n (λ j. names (legAt legs j) ledger title)
 
 -- A coin leg is covered when its payer holds there what its legs come to, up to and including this one;
 -- a title leg when its payer holds the title and no earlier leg on the ledger names it.

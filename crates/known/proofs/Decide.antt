@@ -1,17 +1,18 @@
 -- Whether a small plan is accepted, as a test that computes.
-use Prim.Native.Nat.{ℕ, zero, suc, _≤_, _<_}
+use Prim.Native.Nat.{ℕ, _≤_, _<_}
 use lib.Dec.{eqb, leb, ltb}
 use lib.ListN.{length}
 use mathlib.Core.Bool.{Bool, true, false, not, _&&_, _||_}
 use mathlib.Core.List.{List, [], _∷_}
 use mathlib.Core.Logic.{⊎-elim}
-use mathlib.Core.Path.{_≡_, refl, sym, ap, subst}
-use native.Mathlib.Omega.{arith}
+use mathlib.Core.Path.{_≡_, refl, ap, subst}
 use Rattle.coverage.specs.Coverage.{covered}
 use Rattle.graph.specs.Graphs.{Pays, Connected, Led, Inside}
 use Rattle.known.proofs.Levels.{pays, pays-found, level, passes, met, none, every-route, some-route}
 use Rattle.plan.specs.Check.{Accepted}
-use Rattle.std.proofs.shelf.Tests.{both-ways, and-parts, or-cases, eqb-true, eq-eqb, leb-true, ltb-true, cases-eq, not-true}
+use Rattle.swap.proofs.Below.{all-in}
+use Rattle.swap.specs.Below.{allBelow}
+use Rattle.std.proofs.shelf.Tests.{both-ways, and-parts, or-cases, eqb-true, eq-eqb, leb-true, ltb-true, not-true}
 use Rattle.std.specs.shelf.Lists.{All}
 use Rattle.swap.specs.Routes.{mem, last, Joined, Reaches, Cycle, Span}
 use Rattle.swap.specs.Sets.{member}
@@ -19,16 +20,6 @@ use Rattle.swap.specs.Views.{legAt}
 use Rattle.swap.specs.declared.records.Holding.{Holding}
 use Rattle.swap.specs.declared.records.Leg.{Leg}
 use Rattle.swap.specs.declared.records.Terms.{Terms}
-
-abbrev pub allBelow : ℕ → (ℕ → Bool) → Bool
-allBelow zero f = true
-allBelow (suc n) f = f n && allBelow n f
-
-pub each-below : (n : ℕ) (f : ℕ → Bool) → allBelow n f ≡ true → (k : ℕ) → k < n → f k ≡ true
-each-below zero f e k h = absurd (omega arith)
-each-below (suc n) f e k h =
-    let a = and-parts (f n) (allBelow n f) e in
-    ⊎-elim (λ q. subst (λ i. f i ≡ true) (sym q) (a .0)) (λ ne. each-below n f (a .1) k (omega (arith, ne))) (cases-eq k n)
 
 -- the route begins with x and ends with y
 abbrev pub joins : ℕ → ℕ → List ℕ → Bool
@@ -65,7 +56,7 @@ module _ (legs : List Leg) (n : ℕ) where
     legs-inside : Inside n legs
     legs-inside i h =
         let a = and-parts (ltb (legAt legs i .payer) n) (ltb (legAt legs i .receiver) n)
-        (each-below (length legs) (λ i. ltb (legAt legs i .payer) n && ltb (legAt legs i .receiver) n) within i h) in
+        (all-in (length legs) (λ i. ltb (legAt legs i .payer) n && ltb (legAt legs i .receiver) n) within i h) in
         (ltb-true (legAt legs i .payer) n (a .0), ltb-true (legAt legs i .receiver) n (a .1))
 
     -- a joined route of parties that pay or are paid is one of parties below n
@@ -106,7 +97,7 @@ module _ (legs : List Leg) (n : ℕ) where
 
       pub connects : allBelow n (λ x. allBelow n (λ y. met legs n k (joins x y))) ≡ true → Connected (Pays legs) n
       connects t x y h l =
-          let m = each-below n (λ y. met legs n k (joins x y)) (each-below n (λ x. allBelow n (λ y. met legs n k (joins x y))) t x h) y l in
+          let m = all-in n (λ y. met legs n k (joins x y)) (all-in n (λ x. allBelow n (λ y. met legs n k (joins x y))) t x h) y l in
           let s = some-route legs n k (joins x y) m in
           reach (s .0) (s .1) (s .3)
         where
@@ -123,7 +114,7 @@ module _ (legs : List Leg) (n : ℕ) where
 
 pub covered-by : (holdings : List Holding) (legs : List Leg) → allBelow (length legs) (covered holdings legs) ≡ true →
     (i : ℕ) → i < length legs → covered holdings legs i ≡ true
-covered-by holdings legs t = each-below (length legs) (covered holdings legs) t
+covered-by holdings legs t = all-in (length legs) (covered holdings legs) t
 
 -- the whole test, for a plan whose routes end with level k and whose span is w
 abbrev pub accepts : Terms → List Holding → List Leg → ℕ → ℕ → Bool

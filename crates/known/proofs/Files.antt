@@ -15,6 +15,7 @@ use Rattle.known.specs.Results.{Gives, two, heading42, ring, star, chain}
 use Rattle.known.specs.Results as results
 use Rattle.plan.specs.Check.{fault, unled, cutOff}
 use Rattle.plan.specs.Meaning.{Means, swapIn}
+use Rattle.swap.specs.Below.{allBelow, someBelow}
 use Rattle.records.specs.Reading.{short}
 use Rattle.records.specs.Records.{encode, Fits}
 use Rattle.records.specs.declared.record.Statement.{Statement}
@@ -111,12 +112,14 @@ two-records =
     ∷ []
 
 pub two-means : Means two (Ok (swapIn (said two-records) 2))
+unfolding allBelow someBelow
 two-means = means two (said two-records) 2 2 (answered two-records two (said two-records) refl refl refl refl) refl
 
 pub two-given : Gives two (results.accepted 0 2 5)
 two-given = gives two (said two-records) 2 two-means
 
 pub headed-given : Gives (heading42 ++ two) (results.accepted 42 2 5)
+unfolding allBelow someBelow
 headed-given =
     let rs = states.Heading 42 ∷ two-records in
     gives (heading42 ++ two) (said rs) 2 (means (heading42 ++ two) (said rs) 2 2 (answered rs (heading42 ++ two) (said rs) refl refl refl refl) refl)
@@ -144,16 +147,19 @@ given : (rs : List Statement) → (leb 1 (length (joined encode rs)) && leb (len
 given rs z l w = answered rs (joined encode rs) (said rs) refl z l w
 
 pub ring-means : (outsiders : ℕ) → lawful start (ring outsiders) ≡ true → Means (joined encode (ring outsiders)) (Ok (swapIn (said (ring outsiders)) 3))
+unfolding allBelow someBelow
 ring-means outsiders l = means (joined encode (ring outsiders)) (said (ring outsiders)) 3 3 (given (ring outsiders) refl l refl) refl
 
 pub ring-given : Gives (joined encode (ring 0)) (results.accepted 0 3 28)
 ring-given = gives (joined encode (ring 0)) (said (ring 0)) 3 (ring-means 0 refl)
 
 pub star-given : Gives (joined encode (star 1)) (results.accepted 0 3 7)
+unfolding allBelow someBelow
 star-given = gives (joined encode (star 1)) (said (star 1)) 3 (means (joined encode (star 1)) (said (star 1)) 3 3 (given (star 1) refl refl refl) refl)
 
 -- the route 0, 3 is a cycle without leader 1 or 2
 pub star-refused : Gives (joined encode (star 6)) (results.refused 12 0)
+unfolding allBelow someBelow
 star-refused =
     let c = said (star 6) in (
       fault NoLeader 0,
@@ -181,6 +187,7 @@ star-refused =
 
 -- no joined route begins with 1 and ends with 0
 pub chain-refused : Gives (joined encode chain) (results.refused 11 1)
+unfolding allBelow someBelow
 chain-refused =
     let c = said chain in (
       fault NotConnected 1,

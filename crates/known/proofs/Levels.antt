@@ -7,8 +7,8 @@ use mathlib.Core.List.{List, [], _∷_, _++_}
 use mathlib.Core.Logic.{⊎-elim}
 use mathlib.Core.Path.{_≡_, refl, sym, ap, subst}
 use native.Mathlib.Omega.{arith}
-use Rattle.coverage.proofs.Below.{any-from, any-below}
-use Rattle.coverage.specs.Coverage.{anyBelow}
+use Rattle.swap.proofs.Below.{some-of, some-in}
+use Rattle.swap.specs.Below.{someBelow}
 use Rattle.graph.specs.Graphs.{Pays}
 use Rattle.std.proofs.shelf.Tests.{and-parts, and-from, both-ways, eq-eqb, not-from-false, cases-eq, eqb-true, not-true, or-cases}
 use Rattle.std.proofs.shelf.Elements.{all-append}
@@ -19,16 +19,16 @@ use Rattle.swap.specs.declared.records.Leg.{Leg}
 
 -- x pays a leg to y: the test
 abbrev pub pays : List Leg → ℕ → ℕ → Bool
-pays legs x y = anyBelow (length legs) (λ i. eqb (legAt legs i .payer) x && eqb (legAt legs i .receiver) y)
+pays legs x y = someBelow (length legs) (λ i. eqb (legAt legs i .payer) x && eqb (legAt legs i .receiver) y)
 
 pub pays-found : (legs : List Leg) (x y : ℕ) → Pays legs x y → pays legs x y ≡ true
 pays-found legs x y p =
-    any-from (length legs) (λ i. eqb (legAt legs i .payer) x && eqb (legAt legs i .receiver) y) (p .0) (p .1)
+    some-of (length legs) (λ i. eqb (legAt legs i .payer) x && eqb (legAt legs i .receiver) y) (p .0) (p .1)
     (and-from _ _ (eq-eqb _ _ (p .2)) (eq-eqb _ _ (p .3)))
 
 pays-sound : (legs : List Leg) (x y : ℕ) → pays legs x y ≡ true → Pays legs x y
 pays-sound legs x y e =
-    let r = any-below (length legs) (λ i. eqb (legAt legs i .payer) x && eqb (legAt legs i .receiver) y) e in
+    let r = some-in (length legs) (λ i. eqb (legAt legs i .payer) x && eqb (legAt legs i .receiver) y) e in
     let a = and-parts (eqb (legAt legs (r .0) .payer) x) (eqb (legAt legs (r .0) .receiver) y) (r .2) in
     (r .0, r .1, eqb-true (legAt legs (r .0) .payer) x (a .0), eqb-true (legAt legs (r .0) .receiver) y (a .1))
 

@@ -13,7 +13,8 @@ use Rattle.protocol.specs.Courses.{prompt, slow, ends, tickBy, ticksBy, filings
 use Rattle.protocol.specs.Parties.{enter, openLegs, passKey, refundLegs, shown, relay, opening, revealing, relaying, refunding, turn, turns}
 use Rattle.protocol.specs.State.{Vacant, Held, Paid, Back, Transaction, Open, Key, Refund, allLeaders, enteringStand}
 use Rattle.protocol.specs.Stocks.{refuses, entered}
-use Rattle.protocol.specs.Tables.{put, allBelow, someBelow, countBelow, each, lowest}
+use Rattle.protocol.specs.Tables.{put, countBelow, each, lowest}
+use Rattle.swap.specs.Below.{allBelow, someBelow}
 use Rattle.protocol.specs.Verdicts.{firstOf, allOpened, pays, properLocks, judged, deliver, handle}
 use Rattle.records.specs.Records.{encode}
 use Rattle.std.specs.shelf.Lists.{joined}

@@ -15,7 +15,7 @@ use Rattle.std.proofs.shelf.Tests.{and-parts, cases-eq, cond-both, cond-false, 
 use Rattle.std.specs.declared.result.Result.{Result}
 use Rattle.std.specs.declared.result.Result.the-variants.{Ok, Err}
 use Rattle.swap.specs.Limits.{maxLegs, maxParties}
-use Rattle.swap.specs.Swaps.{sumBelow}
+use Rattle.swap.specs.Below.{sumBelow}
 use Rattle.swap.specs.declared.records.Holder.{Holder}
 use Rattle.swap.specs.declared.records.Holder.the-variants.{Party, Escrow}
 

@@ -5,7 +5,7 @@ use mathlib.Core.Bool.{Bool, true, false, cond}
 use mathlib.Core.Path.{_≡_}
 pub use Rattle.swap.specs.Assets.{Rules, worth, coinRules, titleRules}
 use Rattle.swap.specs.Limits.{bookLedgers, maxLegs, maxParties}
-use Rattle.swap.specs.Swaps.{sumBelow}
+use Rattle.swap.specs.Below.{sumBelow}
 use Rattle.swap.specs.declared.records.Holder.{Holder}
 use Rattle.swap.specs.declared.records.Holder.the-variants.{Party, Escrow}
 

@@ -37,14 +37,17 @@ pub fn drain<M: Mempool>(
     Ok(taken)
 }
 
+// A mempool in which no number waits twice stays so, whatever is called.
 pub fn numbers_stay_apart()
     ensures { λ _. ⌜ Kept Apart ⌝ }
 {}
 
+// A mempool in which no more wait than may stays so.
 pub fn few_stay_few()
     ensures { λ _. ⌜ Kept Few ⌝ }
 {}
 
+// Of a mempool in which no number waits twice, none is handed out twice.
 pub fn drained_apart()
     ensures { λ _. ⌜ DrainedApart ⌝ }
 {}

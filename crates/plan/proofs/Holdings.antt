@@ -8,14 +8,15 @@ use mathlib.Core.Logic.{_⊎_, inl, inr, ⊎-elim}
 use mathlib.Core.Path.{_≡_, refl, sym, ap, subst, subst₂, subst₃, _∙_}
 use native.Mathlib.Nat.{le-trans, le-of-eq}
 use native.Mathlib.Omega.{arith}
-use Rattle.coverage.proofs.Below.{any-below, none-below}
+use Rattle.swap.proofs.Below.{some-in, none-in}
 use Rattle.coverage.specs.Coverage.{covered, coinsHeld, coinsOwed, coinsOf, holdsTitle, isTitle, namesTitle, names}
 use Rattle.swap.proofs.Tests.{eqb-comm}
 use Rattle.swap.proofs.Sums.{sum-zero, sum-le, sum-term, sum-swap, sum-most, sum-one}
 use Rattle.std.proofs.shelf.Tests.{cases-eq, eq-eqb, ne-eqb, eqb-true, cond-true, cond-false, and-parts, and-from, leb-true, not-true, both-ways}
 use Rattle.swap.specs.Assets.{worth, titleRules, rulesIf, rulesOf, holdsCoins, assetOn}
 use Rattle.swap.specs.Limits.{maxParties, maxCoins, coinCeiling}
-use Rattle.swap.specs.Swaps.{sumBelow, owed, start, total}
+use Rattle.swap.specs.Below.{sumBelow}
+use Rattle.swap.specs.Swaps.{owed, start, total}
 use Rattle.swap.specs.Views.{legAt, holdingAt, swapOf}
 use Rattle.swap.specs.declared.records.Holding.{Holding}
 use Rattle.swap.specs.declared.records.Leg.{Leg}
@@ -100,7 +101,7 @@ module _ (holdings : List Holding) (legs : List Leg) (all : (i : ℕ) → i < le
   title-held : (p l u : ℕ) → holdsTitle holdings p l u ≡ true → 1 ≤ titlesHeld p l u
   unfolding titlesHeld
   title-held p l u e =
-      let r = any-below (length holdings) (λ k. isTitle (holdingAt holdings k) p l u) e in
+      let r = some-in (length holdings) (λ k. isTitle (holdingAt holdings k) p l u) e in
       let h = holdingAt holdings (r .0) in
       let t =
       subst (λ b. 1 ≤ cond (eqb (h .party) p && eqb (h .ledger) l) (cond b 1 0) 0) (eqb-comm (h .asset) u)
@@ -125,7 +126,7 @@ module _ (holdings : List Holding) (legs : List Leg) (all : (i : ℕ) → i < le
       (λ j q.
       not-named (eqb (legAt legs j .payer) (leg .payer)) (eqb (legAt legs j .ledger) (leg .ledger)) (eqb (leg .asset) (legAt legs j .asset))
       (ap (λ b. eqb (legAt legs j .ledger) (leg .ledger) && b) (eqb-comm (leg .asset) (legAt legs j .asset))
-      ∙ none-below i (λ j. names (legAt legs j) (leg .ledger) (leg .asset)) (t .1) j q)) in
+      ∙ none-in i (λ j. names (legAt legs j) (leg .ledger) (leg .asset)) (t .1) j q)) in
       let one = at-most-one (eqb (leg .payer) (leg .payer) && eqb (leg .ledger) (leg .ledger)) (eqb (leg .asset) (leg .asset)) in
       omega arith
 

@@ -6,13 +6,15 @@ use mathlib.Core.List.{List}
 use mathlib.Core.Logic.{_⊎_, inl, inr, ⊎-elim}
 use mathlib.Core.Path.{_≡_, refl, sym, subst, _∙_}
 use native.Mathlib.Omega.{arith}
-use Rattle.protocol.proofs.Basics.{put-case, some-in, all-in, Fails, Numbered}
+use Rattle.protocol.proofs.Basics.{put-case, Fails, Numbered}
+use Rattle.swap.proofs.Below.{some-in, all-in}
 use Rattle.protocol.proofs.Invariants.{Signed, Way}
 use Rattle.protocol.proofs.Standing.{clash, vacant, held, standing, stand, leaders-self, opened-in}
 use Rattle.protocol.proofs.Ways.{judged-way, way-party, none-of, some-none}
 use Rattle.protocol.specs.State.{Phase, Vacant, Held, Paid, Back, isVacant, isHeld, Escrow, Transaction, Open, Key, Refund, Run, conforming, stands, allLeaders, openEnd, keyEnd, refundTick}
 use Rattle.protocol.specs.Stocks.{Stock}
-use Rattle.protocol.specs.Tables.{put, someBelow, allBelow}
+use Rattle.protocol.specs.Tables.{put}
+use Rattle.swap.specs.Below.{someBelow, allBelow}
 use Rattle.protocol.specs.Verdicts.{ends, tests, altered, allOpened, properLocks}
 use Rattle.std.proofs.shelf.Tests.{eqb-true, and-parts, or-cases, not-true, not-false, cases-bool, ltb-false, leb-false}
 use Rattle.std.specs.declared.option.Option.the-variants.{Some, None}

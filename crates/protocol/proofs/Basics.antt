@@ -1,15 +1,13 @@
 -- Tables, tests and routes.
-use Prim.Native.Nat.{ℕ, zero, suc, _≤_, _<_}
+use Prim.Native.Nat.{ℕ, _≤_, _<_}
 use lib.Dec.{eqb}
 use mathlib.Core.Bool.{Bool, true, false, cond}
 use mathlib.Core.List.{List, [], _∷_}
-use mathlib.Core.Logic.{⊎-elim}
 use mathlib.Core.Path.{_≡_, refl}
 use native.Mathlib.Omega.{arith}
-use Rattle.protocol.specs.Tables.{put, allBelow, someBelow}
+use Rattle.protocol.specs.Tables.{put}
 use Rattle.protocol.specs.Verdicts.{firstOf}
-use Rattle.std.proofs.shelf.Tests.{eqb-true, eqb-false, and-cases, true≢false}
-use Rattle.std.proofs.shelf.Ways.{decides-below-and, decides-below-or}
+use Rattle.std.proofs.shelf.Tests.{eqb-true, eqb-false}
 
 abbrev pub one-if : Bool → ℕ
 one-if b = cond b 1 0
@@ -41,31 +39,6 @@ put-same f k x q e = put-case (λ y. y ≡ x) f k x q (λ _. refl) (λ n. absurd
 
 pub put-other : {X : Type 0} (f : ℕ → X) (k : ℕ) (x : X) (q : ℕ) → (q ≡ k → ⊥) → put f k x q ≡ f q
 put-other f k x q n = put-case (λ y. y ≡ f q) f k x q (λ e. absurd (n e)) (λ _. refl)
-
-pub all-in : (n : ℕ) (f : ℕ → Bool) → allBelow n f ≡ true → (k : ℕ) → k < n → f k ≡ true
-unfolding allBelow
-all-in n f = decides-below-and f (λ k. f k ≡ true) (λ m. allBelow m f) (λ k. (λ e. e, λ e. e)) refl (λ _. refl) n .0
-
-pub all-of : (n : ℕ) (f : ℕ → Bool) → ((k : ℕ) → k < n → f k ≡ true) → allBelow n f ≡ true
-unfolding allBelow
-all-of n f = decides-below-and f (λ k. f k ≡ true) (λ m. allBelow m f) (λ k. (λ e. e, λ e. e)) refl (λ _. refl) n .1
-
-pub some-in : (n : ℕ) (f : ℕ → Bool) → someBelow n f ≡ true → (k : ℕ) × (k < n) × (f k ≡ true)
-unfolding someBelow
-some-in n f = decides-below-or f (λ k. f k ≡ true) (λ m. someBelow m f) (λ k. (λ e. e, λ e. e)) refl (λ _. refl) n .0
-
-pub some-of : (n : ℕ) (f : ℕ → Bool) (k : ℕ) → k < n → f k ≡ true → someBelow n f ≡ true
-unfolding someBelow
-some-of n f k h e = decides-below-or f (λ k. f k ≡ true) (λ m. someBelow m f) (λ k. (λ e. e, λ e. e)) refl (λ _. refl) n .1 (k, h, e)
-
--- a place where a test over all fails
-pub all-fails : (n : ℕ) (f : ℕ → Bool) → allBelow n f ≡ false → (k : ℕ) × (k < n) × (f k ≡ false)
-unfolding allBelow
-all-fails zero f e = absurd (true≢false e)
-all-fails (suc n) f e = ⊎-elim
-    (λ h. (n, omega arith, h))
-    (λ h. let t = all-fails n f h in (t .0, omega arith, t .2))
-    (and-cases (f n) (allBelow n f) e)
 
 -- none of the tests holds
 abbrev pub Fails : List (Bool × ℕ) → Type 0

@@ -27,7 +27,8 @@ use Rattle.std.specs.declared.option.Option.the-variants.{Some}
 use Rattle.std.specs.declared.result.Result.the-variants.{Ok, Err}
 use Rattle.swap.specs.Assets.{Rules, rulesIf, rulesOf, worth, holdsCoins, assetOn}
 use Rattle.swap.specs.Limits.{titles, maxCoins, maxParties, maxLegs}
-use Rattle.swap.specs.Swaps.{Swap, Sound, start, sumBelow}
+use Rattle.swap.specs.Below.{sumBelow}
+use Rattle.swap.specs.Swaps.{Swap, Sound, start}
 use Rattle.swap.specs.declared.records.Holder.the-variants.{Party}
 use Rattle.swap.specs.declared.records.Holder.the-variants.{Escrow as Account}
 

@@ -9,7 +9,8 @@ use mathlib.Core.Path.{_≡_, refl, sym, ap, subst, _∙_}
 use native.Mathlib.Nat.{mul-le-mul-right}
 use native.Mathlib.Omega.{arith}
 use Rattle.protocol.proofs.Alter.{Shape, Alter, unaltered, numbered, no-phase, alter-open, alter-key, alter-refund}
-use Rattle.protocol.proofs.Basics.{put-case, put-same, some-of, all-of, Fails, took, passes, below}
+use Rattle.protocol.proofs.Basics.{put-case, put-same, Fails, took, passes, below}
+use Rattle.swap.proofs.Below.{some-of, all-of}
 use Rattle.protocol.proofs.Invariants.{Signed, Way, Facts, OpenLine, KeyLine, RefundLine, LineFact, Fair, Books, Inv}
 use Rattle.protocol.proofs.Standing.{vacant, held, standing, stand, leaders-self, leader-lock, opened-in, entering-in, entering-mono, entering-new}
 use Rattle.protocol.proofs.Ways.{way-party, way-begins, way-joined, way-suffixes, way-short, of-some, is-some, span-some}

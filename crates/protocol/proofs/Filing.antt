@@ -1,5 +1,5 @@
 -- The invariants are kept where a line is filed, a party begins or signs, and the clock moves.
-use Prim.Native.Nat.{ℕ, zero, suc, _+_, _*_, _≤_, _<_}
+use Prim.Native.Nat.{ℕ, suc, _+_, _*_, _≤_, _<_}
 use lib.ListN.{length}
 use mathlib.Core.Bool.{Bool, true, false, cond}
 use mathlib.Core.List.{List, [], _∷_}
@@ -21,17 +21,14 @@ use Rattle.std.proofs.shelf.Tests.{cases-eq, cases-bool}
 use Rattle.std.specs.declared.option.Option.{Option}
 use Rattle.std.specs.declared.option.Option.the-variants.{Some, None}
 use Rattle.swap.specs.Limits.{outsiderLines}
+use Rattle.swap.proofs.Sums.{sum-same}
 use Rattle.swap.specs.Routes.{mem}
 use Rattle.swap.specs.Swaps.{Swap, Sound}
 
 -- the outsiders' lines
 count-same : (n : ℕ) (f g : ℕ → Bool) → ((k : ℕ) → k < n → f k ≡ g k) → countBelow n f ≡ countBelow n g
 unfolding countBelow
-count-same zero f g h = refl
-count-same (suc n) f g h =
-    let a = count-same n f g (λ k b. h k (omega arith)) in
-    let b = ap one-if (h n (omega arith)) in
-    omega arith
+count-same n f g h = sum-same n (λ k. one-if (f k)) (λ k. one-if (g k)) (λ k b. ap one-if (h k b))
 
 pub outsiders-file : (p : Swap) (r : Run) (v : ℕ) (x : Transaction) → outsiders p (file v x r) ≡ outsiders p r + cond (p .outsider v) 1 0
 unfolding countBelow

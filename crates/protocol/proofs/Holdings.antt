@@ -13,7 +13,8 @@ use Rattle.std.proofs.shelf.Tests.{cond-true, eq-eqb, ne-eqb}
 use Rattle.swap.proofs.Sums.{sum-zero, sum-same, sum-front, sum-changed, sum-swap}
 use Rattle.swap.specs.Assets.{rulesOf, worth}
 use Rattle.swap.specs.Limits.{maxParties, maxLegs}
-use Rattle.swap.specs.Swaps.{Swap, Sound, sumBelow}
+use Rattle.swap.specs.Below.{sumBelow}
+use Rattle.swap.specs.Swaps.{Swap, Sound}
 use Rattle.swap.specs.declared.records.Holder.the-variants.{Party, Escrow}
 
 -- a holding is one party's

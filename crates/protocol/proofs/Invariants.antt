@@ -17,7 +17,8 @@ use Rattle.std.specs.declared.option.Option.the-variants.{Some, None}
 use Rattle.swap.specs.Assets.{rulesOf, worth, assetOn}
 use Rattle.swap.specs.Limits.{outsiderLines, setBits}
 use Rattle.swap.specs.Routes.{mem}
-use Rattle.swap.specs.Swaps.{Swap, start, sumBelow}
+use Rattle.swap.specs.Below.{sumBelow}
+use Rattle.swap.specs.Swaps.{Swap, start}
 use Rattle.swap.specs.declared.records.Holder.the-variants.{Party}
 use Rattle.swap.specs.declared.records.Holder.the-variants.{Escrow as Account}
 

@@ -3,7 +3,7 @@ use Prim.Native.Nat.{ℕ}
 use mathlib.Core.Bool.{Bool, true, false, not, _||_}
 use mathlib.Core.List.{List, [], _∷_}
 use mathlib.Core.Path.{_≡_, refl}
-use Rattle.protocol.proofs.Basics.{all-in, all-of, some-in, some-of}
+use Rattle.swap.proofs.Below.{all-in, all-of, some-in, some-of}
 use Rattle.protocol.proofs.Standing.{clash, entering-in, entering-of}
 use Rattle.protocol.proofs.Ways.{pays-in, pays-of}
 use Rattle.protocol.specs.Law.{Tests}

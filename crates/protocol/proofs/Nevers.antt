@@ -30,7 +30,8 @@ use Rattle.std.specs.shelf.Lists.{All}
 use Rattle.swap.specs.Assets.{rulesOf}
 use Rattle.swap.specs.Limits.{maxLegs, maxParties}
 use Rattle.swap.specs.Routes.{mem, distinct}
-use Rattle.swap.specs.Swaps.{Swap, Sound, sumBelow}
+use Rattle.swap.specs.Below.{sumBelow}
+use Rattle.swap.specs.Swaps.{Swap, Sound}
 use Rattle.swap.specs.declared.records.Waiting.{Waiting}
 
 -- numbers below n of which none stands twice are at most n

@@ -21,14 +21,10 @@ use Rattle.std.proofs.shelf.Tests.{eqb-true, eq-eqb, and-parts, both-ways}
 use Rattle.std.specs.declared.option.Option.{Option}
 use Rattle.std.specs.declared.option.Option.the-variants.{Some}
 use Rattle.swap.specs.Limits.{maxLegs, maxLines, maxParties}
-use Rattle.swap.specs.Swaps.{Swap, Sound, sumBelow}
+use Rattle.swap.specs.Below.{sumBelow}
+use Rattle.swap.specs.Swaps.{Swap, Sound}
 
 -- Counting
-
-count-sum : (n : ℕ) (c : ℕ → Bool) → countBelow n c ≡ sumBelow n (λ k. cond (c k) 1 0)
-unfolding countBelow
-count-sum zero c = refl
-count-sum (suc n) c = ap (λ x. x + cond (c n) 1 0) (count-sum n c)
 
 -- every number passes one test or the other
 count-either : (n : ℕ) (b c : ℕ → Bool) → ((k : ℕ) → k < n → c k ≡ false → b k ≡ true) → n ≤ countBelow n b + countBelow n c
@@ -50,8 +46,8 @@ pigeons : (n m : ℕ) (c : ℕ → Bool) (code : ℕ → ℕ)
     → ((k : ℕ) → k < n → c k ≡ true → code k < m)
     → ((j k : ℕ) → j < n → k < n → c j ≡ true → c k ≡ true → code j ≡ code k → j ≡ k)
     → countBelow n c ≤ m
+unfolding countBelow
 pigeons n m c code low apart =
-    let e = count-sum n c in
     let a = sum-le n (λ k. cond (c k) 1 0) (λ k. sumBelow m (λ q. hit q k)) (λ k l. some k (c k) refl (low k l)) in
     let s = sum-swap n m hit in
     let t = sum-most m (λ q. sumBelow n (hit q)) 1 (λ q l. sum-one n (hit q) 1 (λ k h. one-most (c k && eqb (code k) q)) (once q)) in

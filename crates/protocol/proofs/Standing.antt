@@ -6,7 +6,7 @@ use mathlib.Core.List.{List}
 use mathlib.Core.Logic.{_⊎_, inl, inr, ⊎-elim}
 use mathlib.Core.Path.{_≡_, refl, sym}
 use native.Mathlib.Omega.{arith}
-use Rattle.protocol.proofs.Basics.{all-in, all-of, all-fails}
+use Rattle.swap.proofs.Below.{all-in, all-of, all-fails}
 use Rattle.protocol.specs.State.{Phase, Vacant, Held, Paid, Back, isVacant, isHeld, isPaid, Escrow, conforming, stands, allLeaders, enteringStand}
 use Rattle.protocol.specs.Steps.{Entering}
 use Rattle.protocol.specs.Tables.{sameBool, isSome}

@@ -5,7 +5,7 @@ use native.Mathlib.Omega.{arith}
 use Rattle.protocol.proofs.Basics.{put-same, put-other}
 use Rattle.protocol.specs.Tables.{put}
 use Rattle.swap.proofs.Sums.{sum-changed}
-use Rattle.swap.specs.Swaps.{sumBelow}
+use Rattle.swap.specs.Below.{sumBelow}
 
 -- a sum over a table, of which one place changes
 pub sum-put :

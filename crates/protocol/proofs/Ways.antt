@@ -7,7 +7,7 @@ use mathlib.Core.List.{List, [], _∷_}
 use mathlib.Core.Logic.{⊎-elim}
 use mathlib.Core.Path.{_≡_, refl, sym, ap, subst}
 use native.Mathlib.Omega.{arith}
-use Rattle.protocol.proofs.Basics.{some-in, some-of}
+use Rattle.swap.proofs.Below.{some-in, some-of}
 use Rattle.protocol.proofs.Invariants.{Signed, Way, one, more}
 use Rattle.protocol.specs.State.{conforming}
 use Rattle.protocol.specs.Tables.{sameList, isSome}

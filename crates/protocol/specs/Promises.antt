@@ -5,7 +5,8 @@ use mathlib.Core.Bool.{Bool, true, cond, not, _&&_, _||_}
 use mathlib.Core.Path.{_≡_}
 use Rattle.protocol.specs.State.{isVacant, isPaid, isBack, Escrow, Run, State, idle, running, conforming, stands, refundTick, lastTick}
 use Rattle.swap.specs.Assets.{rulesOf, worth}
-use Rattle.swap.specs.Swaps.{Swap, start, sumBelow}
+use Rattle.swap.specs.Below.{sumBelow}
+use Rattle.swap.specs.Swaps.{Swap, start}
 use Rattle.swap.specs.declared.records.Holder.the-variants.{Party}
 
 module _ (p : Swap) where

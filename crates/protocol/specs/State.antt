@@ -4,7 +4,8 @@ use lib.Dec.{eqb, ltb}
 use mathlib.Core.Bool.{Bool, true, false, cond, not, _&&_}
 use mathlib.Core.List.{List}
 use Rattle.protocol.specs.Stocks.{Stock}
-use Rattle.protocol.specs.Tables.{allBelow, sameBool}
+use Rattle.protocol.specs.Tables.{sameBool}
+use Rattle.swap.specs.Below.{allBelow}
 use Rattle.std.specs.declared.option.Option.{Option}
 use Rattle.swap.specs.Swaps.{Swap}
 pub use Rattle.swap.specs.Ticks.{openEnd, keyEnd, refundTick, lastTick}

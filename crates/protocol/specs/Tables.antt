@@ -1,28 +1,20 @@
--- Tables as functions from ℕ, and tests and turns over the numbers below n.
-use Prim.Native.Nat.{ℕ, zero, suc, _+_}
+-- Tables as functions from ℕ, and turns and counts over the numbers below n.
+use Prim.Native.Nat.{ℕ, zero, suc}
 use lib.Dec.{eqb}
-use mathlib.Core.Bool.{Bool, true, false, cond, _&&_, _||_}
+use mathlib.Core.Bool.{Bool, true, false, cond, _&&_}
 use mathlib.Core.List.{List, [], _∷_}
 pub use Rattle.std.specs.Options.{isSome}
 use Rattle.std.specs.declared.option.Option.{Option}
 use Rattle.std.specs.declared.option.Option.the-variants.{Some, None}
+use Rattle.swap.specs.Below.{sumBelow}
 
 -- the same table, but for one place
 unfoldable pub put : {X : Type 0} → (ℕ → X) → ℕ → X → ℕ → X
 put f k x q = cond (eqb q k) x (f q)
 
-unfoldable pub allBelow : ℕ → (ℕ → Bool) → Bool
-allBelow zero f = true
-allBelow (suc n) f = f n && allBelow n f
-
-unfoldable pub someBelow : ℕ → (ℕ → Bool) → Bool
-someBelow zero f = false
-someBelow (suc n) f = f n || someBelow n f
-
 -- how many numbers below n pass
 unfoldable pub countBelow : ℕ → (ℕ → Bool) → ℕ
-countBelow zero f = 0
-countBelow (suc n) f = countBelow n f + cond (f n) 1 0
+countBelow n f = sumBelow n (λ k. cond (f k) 1 0)
 
 -- x, changed by 0, then by 1, .. , last by n - 1
 unfoldable pub each : {X : Type 0} → ℕ → (ℕ → X → X) → X → X

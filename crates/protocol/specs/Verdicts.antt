@@ -6,7 +6,8 @@ use mathlib.Core.Bool.{Bool, true, false, cond, not, _&&_, _||_}
 use mathlib.Core.List.{List, [], _∷_}
 use Rattle.protocol.specs.State.{Held, Paid, Back, isVacant, isHeld, isPaid, Escrow, Transaction, Open, Key, Refund, legOf, Line, Run, conforming, openEnd, keyEnd, refundTick}
 use Rattle.protocol.specs.Stocks.{Stock, refuses, deposit, release}
-use Rattle.protocol.specs.Tables.{put, allBelow, someBelow, isSome, sameList}
+use Rattle.protocol.specs.Tables.{put, isSome, sameList}
+use Rattle.swap.specs.Below.{allBelow, someBelow}
 use Rattle.std.specs.declared.option.Option.{Option}
 use Rattle.std.specs.declared.option.Option.the-variants.{Some, None}
 use Rattle.swap.specs.Routes.{mem}

@@ -1,4 +1,5 @@
 pub mod Assets
+pub mod Below
 pub mod Faults
 pub mod Limits
 pub mod Routes

@@ -1,9 +1,10 @@
 -- A swap as planned, seen as functions of a leg's and a holding's number, and the facts that the promises rest on.
-use Prim.Native.Nat.{ℕ, zero, suc, _+_, _≤_, _<_}
+use Prim.Native.Nat.{ℕ, _≤_, _<_}
 use lib.Dec.{eqb}
 use mathlib.Core.Bool.{Bool, true, cond, _&&_}
 use mathlib.Core.Path.{_≡_}
 use Rattle.swap.specs.Assets.{rulesOf, worth, assetOn}
+use Rattle.swap.specs.Below.{sumBelow}
 use Rattle.swap.specs.Limits.{minParties, maxParties, maxLegs, maxDelta, fileLedgers}
 use Rattle.swap.specs.Routes.{Connected, Led, Span}
 
@@ -29,11 +30,6 @@ pub record Swap : Type 0 where
 -- x pays a leg to y
 abbrev pub Pays : Swap → ℕ → ℕ → Type 0
 Pays s x y = (i : ℕ) × (i < s .legs) × (s .payer i ≡ x) × (s .receiver i ≡ y)
-
--- f 0 + f 1 + ... , n of them
-abbrev pub sumBelow : ℕ → (ℕ → ℕ) → ℕ
-sumBelow zero f = 0
-sumBelow (suc n) f = sumBelow n f + f n
 
 -- what a party holds of a unit on a ledger before the swap
 abbrev pub start : Swap → ℕ → ℕ → ℕ → ℕ

@@ -2,7 +2,7 @@ use Prim.Native.Nat.{_*_, _≤_}
 use mathlib.Core.Path.{_≡_}
 use Rattle.coverage.proofs.coins_held.Given as given
 use Rattle.coverage.specs.Coverage.{coinsOf}
-use Rattle.swap.specs.Swaps.{sumBelow}
+use Rattle.swap.specs.Below.{sumBelow}
 use Rattle.swap.specs.Views.{holdingAt}
 
 abbrev pub Inv-loop-holding : given.InvT-loop-holding

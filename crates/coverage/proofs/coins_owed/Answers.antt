@@ -4,7 +4,7 @@ use native.Mathlib.Omega.{arith}
 use Rattle.coverage.proofs.Below.{sum-more}
 use Rattle.coverage.proofs.coins_owed.Needs as need
 use Rattle.coverage.specs.Coverage.{coinsPaid}
-use Rattle.swap.specs.Swaps.{sumBelow}
+use Rattle.swap.specs.Below.{sumBelow}
 use Rattle.swap.specs.Views.{legAt}
 
 pub loop-i-again : need.loop-i-again

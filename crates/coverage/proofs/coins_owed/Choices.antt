@@ -2,7 +2,7 @@ use Prim.Native.Nat.{_*_, _≤_}
 use mathlib.Core.Path.{_≡_}
 use Rattle.coverage.proofs.coins_owed.Given as given
 use Rattle.coverage.specs.Coverage.{coinsPaid}
-use Rattle.swap.specs.Swaps.{sumBelow}
+use Rattle.swap.specs.Below.{sumBelow}
 use Rattle.swap.specs.Views.{legAt}
 
 abbrev pub Inv-loop-i : given.InvT-loop-i

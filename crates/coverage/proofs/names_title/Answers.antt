@@ -1,7 +1,8 @@
 use Prim.Native.Nat.{ℕ}
 use mathlib.Core.Bool.{Bool}
 use mathlib.Core.Path.{sym}
-use Rattle.coverage.proofs.Below.{any-more, any-from}
+use Rattle.coverage.proofs.Below.{none-next}
+use Rattle.swap.proofs.Below.{some-of, none-first}
 use Rattle.coverage.proofs.names_title.Needs as need
 use Rattle.coverage.specs.Coverage.{names}
 use Rattle.swap.specs.Views.{legAt}
@@ -9,9 +10,12 @@ use Rattle.swap.specs.Views.{legAt}
 pub returns-then-names : need.returns-then-names
 returns-then-names c =
     let f : ℕ → Bool = λ j. names (legAt (c .args .legs .now) j) (c .args .ledger) (c .args .title) in
-    sym (any-from (c .args .end) f (c .loop-i .i) (c .loop-i-test .taken) (sym (c .if-names .ensures tt)))
+    sym (some-of (c .args .end) f (c .loop-i .i) (c .loop-i-test .taken) (sym (c .if-names .ensures tt)))
 
 pub loop-i-again : need.loop-i-again
 loop-i-again c =
     let f : ℕ → Bool = λ j. names (legAt (c .args .legs .now) j) (c .args .ledger) (c .args .title) in
-    any-more (c .loop-i .i) f (c .loop-i .inv) (sym (c .if-names .ensures tt))
+    none-next (c .loop-i .i) f (c .loop-i .inv) (sym (c .if-names .ensures tt))
+
+pub loop-i-holds : need.loop-i-holds
+loop-i-holds c = none-first _
