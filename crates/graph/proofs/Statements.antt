@@ -177,9 +177,6 @@ module _ (P : ℕ → ℕ → Type 0) where
   pub reaches : (x y w : ℕ) → Longest P x y w → 0 < w → Reaches P x y
   reaches x y w l h = let s = l .some h in record { by = s .0; route = s .1; ends = s .2 }
 
-  pub reaches-not : (x y w : ℕ) → Longest P x y w → w ≡ 0 → Reaches P x y → ⊥
-  reaches-not x y w l e r = let h = l .most (r .by) (r .route) (r .ends) in omega arith
-
   pub connected : (n : ℕ) → ((q : ℕ) → q < n → Reaches P 0 q × Reaches P q 0) → Connected P n
   connected n h x y l m = reaches-on P x 0 y (h x l .1) (h y m .0)
 

@@ -1,13 +1,12 @@
 -- Of a swap whose legs are between its parties, everything is said over its legs alone.
 use Prim.Native.Nat.{ℕ, _≤_, _<_}
-use lib.ListN.{getD}
-use mathlib.Core.List.{List, _∷_}
+use mathlib.Core.List.{List}
 use mathlib.Core.Logic.{inl, inr, ⊎-elim}
 use mathlib.Core.Path.{_≡_, subst}
 use native.Mathlib.Omega.{arith}
 use Rattle.graph.proofs.Joins.{joined-map, reaches-map, cycle-map}
 use Rattle.graph.proofs.Statements.{plain}
-use Rattle.graph.specs.Graphs.{Pays, Among, count, Longest, Table, Spanned, Connects, Leads, Inside}
+use Rattle.graph.specs.Graphs.{Pays, Among, count, Spanned, Connects, Leads, Inside}
 use Rattle.std.specs.declared.option.Option.{Option}
 use Rattle.std.specs.declared.option.Option.the-variants.{Some, None}
 use Rattle.swap.specs.Limits.{maxParties}
@@ -29,12 +28,6 @@ module _ (legs : List Leg) (n : ℕ) (inside : Inside n legs) where
 
   reach-from : (x y : ℕ) → Reaches (Among n legs) x y → Reaches (Pays legs) x y
   reach-from = reaches-map (Among n legs) (Pays legs) from
-
-  longest-from : (x y w : ℕ) → Longest (Among n legs) x y w → Longest (Pays legs) x y w
-  longest-from x y w l = record {
-    some = λ h. let s = l .some h in (s .0, plain legs n (x ∷ s .0) (s .1), s .2, s .3);
-    most = λ r j. l .most r (tos (x ∷ r) j);
-  }
 
   span-from : (w : ℕ) → Span (Among n legs) n w → Span (Pays legs) n w
   span-from w s = record {
@@ -76,12 +69,7 @@ module _ (legs : List Leg) (n : ℕ) (inside : Inside n legs) where
     same : count n ≡ n
     same = omega arith
 
-    -- what `longest`, `span`, `cut_off` and `unled` ensure, of such a swap
-    pub whole-longest : (x : ℕ) (t : List ℕ) → Table (Among (count n) legs) (count n) x t → Table (Pays legs) n x t
-    whole-longest x t h =
-        let h′ = subst (λ m. Table (Among m legs) m x t) same h in
-        record { inside = λ l y m. longest-from x y (getD t y 0) (h′ .inside l y m); outside = h′ .outside }
-
+    -- what `span`, `cut_off` and `unled` ensure, of such a swap
     pub whole-span : (w : ℕ) → 1 ≤ n → Spanned (Among (count n) legs) (count n) w → Span (Pays legs) n w
     whole-span w l h = span-from w (subst (λ m. Spanned (Among m legs) m w) same h .some l)
 

@@ -7,7 +7,7 @@ use mathlib.Core.Path.{_≡_, refl, sym, ap, fun-ext, subst, _∙_}
 use native.Mathlib.Omega.{arith}
 use Rattle.swap.proofs.Sums.{sum-set, sum-term}
 use Rattle.ledgers.specs.Calls.{Answer, OnLedger, onLedger, Deposited, Released, refuse, settled, creditVerdict, credited, depositVerdict, deposited, releaseVerdict, released}
-use Rattle.ledgers.specs.Laws.{PaidThrough, Then, Unmoved, SameTotals, DepositsComeBack, DepositsKeepTotals, ReleasesKeepTotals, CreditsRaiseTotals}
+use Rattle.ledgers.specs.Laws.{CallsAreSteps, PaidThrough, Then, Unmoved, SameTotals, DepositsComeBack, DepositsKeepTotals, ReleasesKeepTotals, CreditsRaiseTotals}
 use Rattle.ledgers.specs.Stocks.{Counts, Stock, Rules, Lawful, worth, isLedger, isParty, isAccount, total, content}
 use Rattle.ledgers.specs.declared.refusals.Refusal.{Refusal}
 use Rattle.ledgers.specs.declared.refusals.Refusal.the-variants.{OutOfRange, AccountTaken, TooLittle}
@@ -26,19 +26,16 @@ accepted true reason further x h = let z : _≡_ {A = ℕ} 0 1 = cc in absurd (o
 accepted false reason further x h = (refl, h)
 
 -- the stock after an accepted call, and after a refused one
-module _ (ledger : ℕ) (verdict : Counts → Answer) (effect : Counts → Counts) (s s′ : Stock) where
-  pub accepted-stock : {x : Unit {0}} → OnLedger ledger verdict effect s (Ok x) s′ → s′ ≡ onLedger ledger effect s
-  accepted-stock did =
-      fun-ext (λ l. fun-ext (λ h. fun-ext (λ u.
-      ⊎-elim
-      (λ e. subst (λ x. s′ x h u ≡ onLedger ledger effect s x h u) (sym e) (did .counts h u ∙ sym (cond-true (eqb ledger ledger) _ _ (eq-eqb ledger ledger refl))))
-      (λ ne. did .others l ne h u ∙ sym (cond-false (eqb l ledger) _ _ (ne-eqb l ledger ne)))
-      (cases-eq l ledger))))
-
-  pub refused-stock : {e : Refusal} → OnLedger ledger verdict effect s (Err e) s′ → s′ ≡ s
-  refused-stock did =
-      fun-ext (λ l. fun-ext (λ h. fun-ext (λ u.
-      ⊎-elim (λ e. subst (λ x. s′ x h u ≡ s x h u) (sym e) (did .counts h u)) (λ ne. did .others l ne h u) (cases-eq l ledger))))
+pub calls-are-steps : CallsAreSteps
+calls-are-steps ledger verdict effect s s′ (Ok x) did =
+    fun-ext (λ l. fun-ext (λ h. fun-ext (λ u.
+    ⊎-elim
+    (λ e. subst (λ x. s′ x h u ≡ onLedger ledger effect s x h u) (sym e) (did .counts h u ∙ sym (cond-true (eqb ledger ledger) _ _ (eq-eqb ledger ledger refl))))
+    (λ ne. did .others l ne h u ∙ sym (cond-false (eqb l ledger) _ _ (ne-eqb l ledger ne)))
+    (cases-eq l ledger))))
+calls-are-steps ledger verdict effect s s′ (Err x) did =
+    fun-ext (λ l. fun-ext (λ h. fun-ext (λ u.
+    ⊎-elim (λ e. subst (λ x. s′ x h u ≡ s x h u) (sym e) (did .counts h u)) (λ ne. did .others l ne h u) (cases-eq l ledger))))
 
 -- an asset is no more than a party has of each unit, if it is not of its own
 pub worth-le : (k : Rules) (asset : ℕ) (has : ℕ → ℕ) → k .amount asset ≤ has (k .unit asset) → (u : ℕ) → worth k asset u ≤ has u

@@ -3,8 +3,8 @@ use Prim.Native.Nat.{ℕ, _+_, _<_}
 use lib.Dec.{eqb}
 use mathlib.Core.Bool.{cond}
 use mathlib.Core.Path.{_≡_}
-use Rattle.ledgers.specs.Calls.{Answer, Credited, Deposited, Released}
-use Rattle.ledgers.specs.Stocks.{Stock, Rules, Lawful, total, worth}
+use Rattle.ledgers.specs.Calls.{Answer, OnLedger, onLedger, Credited, Deposited, Released}
+use Rattle.ledgers.specs.Stocks.{Counts, Stock, Rules, Lawful, total, worth}
 use Rattle.std.specs.declared.result.Result.the-variants.{Ok, Err}
 use Rattle.swap.specs.declared.records.Holder.{Holder}
 
@@ -12,6 +12,12 @@ use Rattle.swap.specs.declared.records.Holder.{Holder}
 abbrev pub Then : Answer → Type 0 → Type 0 → Type 0
 Then (Ok _) P Q = P
 Then (Err _) P Q = Q
+
+-- What a call leaves, of the whole stock: accepted, its effect on the one ledger; refused, all as it was.
+abbrev pub CallsAreSteps : Type 0
+CallsAreSteps =
+    (ledger : ℕ) (verdict : Counts → Answer) (effect : Counts → Counts) (s s′ : Stock) (answer : Answer)
+    → OnLedger ledger verdict effect s answer s′ → Then answer (s′ ≡ onLedger ledger effect s) (s′ ≡ s)
 
 -- every unit has the same count
 abbrev pub Unmoved : Rules → Stock → Stock → Type 0

@@ -1,8 +1,13 @@
 ghost use mathlib.Core.Path.{_≡_};
-ghost use Rattle.ledgers.specs.Laws.{CreditsRaiseTotals, DepositsComeBack, DepositsKeepTotals, ReleasesKeepTotals, PaidThrough, SameTotals, Unmoved};
+ghost use Rattle.ledgers.specs.Laws.{CallsAreSteps, CreditsRaiseTotals, DepositsComeBack, DepositsKeepTotals, ReleasesKeepTotals, PaidThrough, SameTotals, Unmoved};
 use crate::books::Ledgers;
 use crate::kinds::Kind;
 use crate::refusals::Refusal;
+
+// What a call leaves is one step of the whole stock.
+pub fn calls_are_steps()
+    ensures { λ _. ⌜ CallsAreSteps ⌝ }
+{}
 
 // A deposit that is released to its payer gives back the stock.
 pub fn deposits_come_back()

@@ -1,6 +1,5 @@
 -- Lemmas on taking one out of what waits, and one after another.
-use Prim.Native.Nat.{ℕ, suc, _+_, _≤_}
-use native.Mathlib.Omega.{arith}
+use Prim.Native.Nat.{ℕ, suc}
 use lib.Dec.{eqb}
 use lib.ListN.{length}
 use mathlib.Core.Bool.{Bool, true, false, not, _&&_, _||_}
@@ -87,10 +86,6 @@ push-drained (more u d) t = more u (push-drained d t)
 pub drained-push : {w : Waiting} {taken taken′ before between after : List Waiting} → Drained taken before between → Taken w between after → taken′ ≡ taken ++ w ∷ [] → Drained taken′ before after
 drained-push {before} {after} d t e = subst (λ xs. Drained xs before after) (sym e) (push-drained d t)
 
-pub drained-length : {taken before after : List Waiting} → Drained taken before after → length before ≡ length taken + length after
-drained-length none = omega arith
-drained-length (more t d) = let l = taken-length t in let r = drained-length d in omega arith
-
 -- a number waits before if it is taken or waits after
 pub drained-waits : {taken before after : List Waiting} (n : ℕ) → Drained taken before after → waits n before ≡ (waits n taken || waits n after)
 drained-waits n none = refl
@@ -105,15 +100,3 @@ drained-apart (more {w} {taken} {before} {between} {after} t d) apart =
     let rest = drained-apart d (parts .1) in
     let gone : waits (w .number) taken ≡ false = or-parts _ _ (sym (drained-waits (w .number) d) ∙ not-true _ (parts .0)) .0 in
     (and-from _ _ (not-from-false _ gone) (rest .0), rest .1)
-
-pub drained-all : (P : Waiting → Type 0) {taken before after : List Waiting} → Drained taken before after → All P before → All P taken × All P after
-drained-all P none a = (tt, a)
-drained-all P (more t d) a = let r = taken-all P t a in let q = drained-all P d (r .1) in ((r .0, q .0), q .1)
-
-all-none : (P : Waiting → Type 0) (ws : List Waiting) → length ws ≤ 0 → All P ws
-all-none P [] h = tt
-all-none P (w ∷ ws) h = absurd (omega arith)
-
--- where at least as many are taken as waited, none is left
-pub drained-whole : (P : Waiting → Type 0) (n : ℕ) {taken before after : List Waiting} → Drained taken before after → length before ≤ n → n ≤ length taken → All P after
-drained-whole P n {taken} {before} {after} d few full = all-none P after (omega (arith, drained-length d))

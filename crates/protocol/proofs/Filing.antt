@@ -44,11 +44,6 @@ has-file r v x u y h =
     let e = put-other (r .line) (r .count) (asLine v x r) (h .0) (omega arith) in
     (h .0, omega arith, ap (λ l. l .filer) e ∙ h .2, ap (λ l. l .transaction) e ∙ h .3)
 
-pub has-new : (r : Run) (v : ℕ) (x : Transaction) → HasLine (file v x r) v x
-has-new r v x =
-    let e = put-same (r .line) (r .count) (asLine v x r) (r .count) refl in
-    (r .count, omega arith, ap (λ l. l .filer) e, ap (λ l. l .transaction) e)
-
 module _ (p : Swap) (r : Run) (v : ℕ) (x : Transaction) where
   lines-file : Lines p r → Fair p x → (conforming p v ≡ false → p .outsider v ≡ true) → (conforming p v ≡ true → LineFact p (r .escrow) (r .signed) (r .begun) v (r .tick) pending x)
       → (conforming p v ≡ true → NoLine r v x) → Lines p (file v x r)

@@ -137,10 +137,9 @@ call-kept s c a s′ h k = let next : Reached s′ = after c a k h in (next, law
 lawful-history : {s s′ : State} {cs : List Call} {as′ : List Answer} → History (λ _ _. Unit {0}) s cs as′ s′ → Reached s → History Lawful s cs as′ s′ × Reached s′ × Final s s′
 lawful-history {s} over k = (over, k, same-final s)
 lawful-history (called {s} {s′} {s″} {c} {a} h u rest) k =
-    let next : Reached s′ = after c a k h in
-    let f = call-final s c a s′ k h in
-    let t = lawful-history rest next in
-    (called h (law s′ next, f) (t .0), t .1, final-then s s′ s″ f (t .2))
+    let kept = call-kept s c a s′ h k in
+    let t = lawful-history rest (kept .0) in
+    (called h (kept .1, kept .2) (t .0), t .1, final-then s s′ s″ (kept .2) (t .2))
 
 pub histories : Histories
 histories s s′ cs as′ k h = lawful-history h k

@@ -669,9 +669,6 @@ turned p sound r inv w =
       longer = k .longer;
     }
 
-pub turns-steps : (p : Swap) → Sound p → (r : Run) → Inv p r → Heard p r → Steps p r (turns p r) × Rested p (turns p r)
-turns-steps p sound r i w = let d = turned p sound r i w in (d .steps, d .rested)
-
 pub heard-fresh : (p : Swap) → Heard p (fresh p)
 heard-fresh p = record {
   fresh = λ n h. absurd (omega arith);

@@ -135,10 +135,6 @@ module _ (p : Swap) where
   way-true (one h) = tt
   way-true (more {x} {y} {lock} {r} a b h w) = (pays-in x y a, b, way-true w)
 
-  pub way-some : {σ : Signed} {x lock : ℕ} {r : List ℕ} → Way p σ x lock r → 1 ≤ length r
-  way-some (one h) = omega arith
-  way-some (more a b h w) = omega arith
-
   pub way-short : {σ : Signed} {x lock : ℕ} {r : List ℕ} → Sound p → Way p σ x lock r → length r ≤ p .span
   way-short {σ} {x} {lock} {r} s w = s .spanned .most r (way-true w)
 
