@@ -1,5 +1,5 @@
 -- When a leg is covered by its payer's holdings.
-use Rattle.std.specs.Prelude.{◌≡◌, ℕ, suc, ◌<◌, Bool, not, ◌&&◌, List, length, Some, None, Option, ◌==◌, nat_le, if◌then◌else◌, IsTrue, IsFalse}
+use Rattle.std.specs.Prelude.{ℕ, suc, ◌<◌, Bool, not, ◌&&◌, List, length, Some, None, Option, ◌==◌, nat_le, if◌then◌else◌, IsTrue, IsFalse}
 use Rattle.swap.specs.Assets.{holds_coins}
 use Rattle.swap.specs.Below.{sum_below, some_below}
 use Rattle.swap.specs.Views.{leg_at, holding_at}

@@ -1,5 +1,5 @@
 -- What records say, one after another, and the rules that a record obeys after those before it.
-use Rattle.std.specs.Prelude.{◌≡◌, ℕ, ◌<◌, Bool, true, false, not, ◌&&◌, ◌||◌, List, [], ◌∷◌, ◌++◌, length, take, is_some, Some, None, vec_items, Option, ◌==◌, nat_le, nat_lt, slice_index_or, if◌then◌else◌, IsTrue, IsFalse}
+use Rattle.std.specs.Prelude.{ℕ, ◌<◌, Bool, true, false, not, ◌&&◌, ◌||◌, List, [], ◌∷◌, ◌++◌, length, take, is_some, Some, None, vec_items, Option, ◌==◌, nat_le, nat_lt, slice_index_or, if◌then◌else◌, IsTrue, IsFalse}
 use Rattle.filerules.specs.Fields.{terms_hold, holding_holds, leg_holds}
 use Rattle.filerules.specs.declared.draft.Draft.{Draft}
 use Rattle.records.specs.Records.{kind_of}

@@ -1,5 +1,5 @@
 -- What the search for routes finds: ways, head first, through parties that are still free.
-use Rattle.std.specs.Prelude.{◌≡◌, ℕ, suc, ◌+◌, ◌<◌, ◌≤◌, max, Bool, false, not, ◌&&◌, List, [], ◌∷◌, length, set, nat_lt, slice_index, slice_index_or, slice_set, if◌then◌else◌, IsTrue}
+use Rattle.std.specs.Prelude.{◌≡◌, ℕ, suc, ◌+◌, ◌<◌, ◌≤◌, max, Bool, false, not, ◌&&◌, List, [], ◌∷◌, length, nat_lt, slice_index, slice_index_or, slice_set, if◌then◌else◌, IsTrue}
 use Rattle.std.specs.List.{AllByRecursion}
 use Rattle.swap.specs.Routes.{last, Cycle}
 use Rattle.swap.specs.Sets.{member}

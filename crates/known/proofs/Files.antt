@@ -3,7 +3,6 @@ use Rattle.std.proofs.Common.{◌≡◌, ℕ, ◌+◌, ◌*◌, ◌^◌, Bool, t
 use Rattle.filerules.specs.Said.{Said, start, put, fault_of}
 use Rattle.graph.specs.Graphs.{Pays}
 use Rattle.known.proofs.Decide.{accepts, accepted, covered_by, connects, of_all, joins}
-use Rattle.known.proofs.Levels.{none}
 use Rattle.known.specs.Results.{Gives, two, heading42, ring, star, chain}
 use Rattle.known.specs.Results as results
 use Rattle.plan.specs.Check.{fault, unled, cut_off}

@@ -1,5 +1,5 @@
 -- What a book means: its stock.
-use Rattle.std.specs.Prelude.{◌≡◌, ℕ, ◌+◌, ◌<◌, ◌≤◌, Bool, false, ◌==◌, nat_lt, if◌then◌else◌, IsTrue}
+use Rattle.std.specs.Prelude.{ℕ, ◌+◌, ◌<◌, ◌≤◌, Bool, false, ◌==◌, nat_lt, if◌then◌else◌, IsTrue}
 pub use Rattle.swap.specs.Assets.{Rules, worth, coin_rules, title_rules}
 use Rattle.swap.specs.Limits.{book_ledgers, max_legs, max_parties}
 use Rattle.swap.specs.Below.{sum_below}

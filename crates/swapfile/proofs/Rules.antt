@@ -1,6 +1,6 @@
 -- Lawful records say what is ruled.
 use Rattle.std.proofs.Common.{◌≡◌, ℕ, zero, suc, ◌%◌, ◌<◌, ◌≤◌, Bool, true, false, cond, not, ◌&&◌, ◌||◌, eqb, ltb, leb, List, [], ◌∷◌, ◌++◌, length, get_or, is_some, IfOk, Some, None, Ok, Err, Option, Result, unwrap_or, sym, refl, ap, ◌∙◌, subst, ⊎_elim, arith}
-use Rattle.filerules.specs.Fields.{terms_hold, holding_holds, leg_holds, within}
+use Rattle.filerules.specs.Fields.{terms_hold, holding_holds, leg_holds}
 use Rattle.filerules.specs.Said.{Said, start, put, parties_of, late, fields_hold, full, clash, held, held_before, first_failed, fault_of}
 use Rattle.records.specs.Records.{Fits}
 use Rattle.records.specs.declared.record.Statement.{Statement}
