@@ -6,6 +6,7 @@ use plan::plan::Plan;
 use records::reader::Reader;
 use records::record::Statement;
 use std::io::Read;
+use std::process::ExitCode;
 use std::{env, fs};
 use swap::faults::{Fault, Layer};
 use swapfile::refusal::Refusal;
@@ -92,10 +93,12 @@ fn run(rt: &HostRuntime) -> anyhow::Result<()> {
     }
 }
 
-fn main(rt: HostRuntime) -> anyhow::Result<()> {
-    let result = run(&rt);
-    if let Err(error) = &result {
-        eprintln!(rt; "inspect: {error}")?;
+fn main(rt: HostRuntime) -> ExitCode {
+    match run(&rt) {
+        Ok(()) => ExitCode::SUCCESS,
+        Err(error) => {
+            let _ = eprintln!(rt; "inspect: {error}");
+            ExitCode::FAILURE
+        },
     }
-    result
 }

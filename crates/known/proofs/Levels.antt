@@ -1,4 +1,4 @@
--- AllByRecursion joined routes of a small plan, level by level: a test that holds of each one computed holds of each one there is.
+-- All joined routes of a small plan, level by level: a test that holds of each one computed holds of each one there is.
 use Rattle.std.proofs.Common.{◌≡◌, ℕ, zero, suc, ◌<◌, ◌≤◌, Bool, true, false, cond, not, ◌&&◌, ◌||◌, eqb, List, [], ◌∷◌, ◌++◌, length, sym, refl, ap, subst, ⊎_elim, arith}
 use Rattle.swap.proofs.Below.{some_of, some_in}
 use Rattle.swap.specs.Below.{some_below}

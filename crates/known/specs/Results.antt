@@ -59,7 +59,7 @@ star leaders =
 abbrev pub chain : List Statement
 chain = terms 3 1 0 1 ∷ holds 0 5 ∷ holds 1 5 ∷ pays 0 1 ∷ pays 1 2 ∷ []
 
--- How a swap is run, and how it ends. AllByRecursion parties conform:
+-- How a swap is run, and how it ends. All parties conform:
 abbrev pub undisturbed : Delivery → ℕ → List (ℕ × Phase × ℕ) → Swap → Example
 undisturbed delivery ticks legs s = record { delivery = delivery; swap = s; filed = []; ticks = ticks; lines = []; legs = legs }
 

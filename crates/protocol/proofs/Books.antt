@@ -5,7 +5,7 @@ use Rattle.ledgers.specs.Calls.{Answer, deposit_verdict}
 use Rattle.ledgers.specs.Stocks.{Lawful, content}
 use Rattle.protocol.proofs.Basics.{Fails, put_case}
 use Rattle.protocol.proofs.Invariants.{Signed, Fair, Books, gone, come}
-use Rattle.protocol.proofs.Standing.{vacant as vacant_of_is_vacant, held as is_held_lem}
+use Rattle.protocol.proofs.Standing.{vacant as vacant_of_is_vacant, held as held_of_is_held}
 use Rattle.protocol.proofs.Sums.{sum_put}
 use Rattle.swap.proofs.Sums.{sum_zero, sum_le, sum_term, sum_less}
 use Rattle.swap.proofs.Tests.{eqb_comm}
@@ -347,6 +347,6 @@ books_took p sound t σ filer (Open i asset locks) escrow stock fair fails b =
     (vacant_of_is_vacant (escrow i).phase (not-false (is_vacant (escrow i).phase) fails.1.0)) fails.1.1.1.1.0
 books_took p sound t σ filer (Key i route) escrow stock fair fails b =
     key_books p escrow stock i fair.0 b (all_opened (escrow i).locks (put (escrow i).opened (ends route) (Some route))) t
-    (put (escrow i).opened (ends route) (Some route)) (is_held_lem (escrow i).phase (not-false (is_held (escrow i).phase) fails.1.0))
+    (put (escrow i).opened (ends route) (Some route)) (held_of_is_held (escrow i).phase (not-false (is_held (escrow i).phase) fails.1.0))
 books_took p sound t σ filer (Refund i) escrow stock fair fails b =
-    back_books p escrow stock i fair.0 b _ refl refl (is_held_lem (escrow i).phase (not-false (is_held (escrow i).phase) fails.1.0))
+    back_books p escrow stock i fair.0 b _ refl refl (held_of_is_held (escrow i).phase (not-false (is_held (escrow i).phase) fails.1.0))
