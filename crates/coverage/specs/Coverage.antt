@@ -38,7 +38,9 @@ names_title legs n ledger title = some_below n (λ j. names (leg_at legs j) ledg
 -- a title leg when its payer holds the title and no earlier leg on the ledger names it.
 abbrev pub covered_leg : List Holding → List Leg → ℕ → Leg → Bool
 covered_leg holdings legs i leg =
-    if holds_coins leg.ledger then nat_le (coins_owed legs (suc i) leg.payer leg.ledger) (coins_held holdings leg.payer leg.ledger) else holds_title holdings leg.payer leg.ledger leg.asset && not (names_title legs i leg.ledger leg.asset)
+    if holds_coins leg.ledger
+    then nat_le (coins_owed legs (suc i) leg.payer leg.ledger) (coins_held holdings leg.payer leg.ledger)
+    else holds_title holdings leg.payer leg.ledger leg.asset && not (names_title legs i leg.ledger leg.asset)
 
 abbrev pub covered : List Holding → List Leg → ℕ → Bool
 covered holdings legs i = covered_leg holdings legs i (leg_at legs i)
