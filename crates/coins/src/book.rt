@@ -3,7 +3,8 @@ ghost use Rattle.ledgers.specs.Calls.{Cleared};
 ghost use Rattle.ledgers.specs.Rows.{stock_of};
 
 use crate::ledger::CoinLedger;
-use ledgers::four::{FourLedgers, LEDGERS};
+use ledgers::four::{FourLedgers, empty_book};
+use ledgers::kinds::Coins;
 
 // A count for each ledger and holder.
 pub type CoinBook = FourLedgers<CoinLedger>;
@@ -12,6 +13,5 @@ pub type CoinBook = FourLedgers<CoinLedger>;
 pub fn coin_book() -> CoinBook
     ensures { Cleared (stock_of coins_on result.ledgers) }
 {
-    let ledger = CoinLedger::new();
-    FourLedgers::of([ledger; LEDGERS])
+    empty_book::<Coins, CoinLedger>()
 }

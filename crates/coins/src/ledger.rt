@@ -1,11 +1,9 @@
 ghost use Rattle.std.specs.Prelude.{◌+◌, ◌≤◌, sum};
 ghost use Rattle.swap.specs.Limits.{coin_ceiling};
 
-use swap::limits::{MAX_LEGS, MAX_PARTIES};
+use swap::limits::{MAX_LEGS, PARTIES};
 
 pub mod calls;
-
-const PARTIES: usize = MAX_PARTIES as usize;
 
 // One ledger of coins: what each party and each escrow account has. Together they never have more than the ceiling.
 #[derive(Clone, Copy)]

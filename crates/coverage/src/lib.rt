@@ -1,102 +1,92 @@
 // Are the legs of a swap covered by what the parties hold?
 #![tactic(auto)]
 
-ghost use Rattle.std.specs.Prelude.{◌≡◌, suc, ◌<◌, length};
-ghost use Rattle.coverage.specs.Coverage.{Uncovered, coins_of, coins_held, coins_paid, coins_owed, is_title, holds_title, names, names_title, covered_leg};
+ghost use Rattle.std.specs.Prelude.{◌≡◌, ◌<◌, length, sum_by};
+ghost use Rattle.std.specs.List.{list_any};
+ghost use Rattle.coverage.specs.Coverage.{Uncovered, coins_of, coins_paid, is_title, names, covered};
 
-use swap::limits::COIN_LEDGERS;
+use swap::assets::holds_coins;
 use swap::records::{Holding, Leg};
 
-// The coins of a holding, if it is the party's on the ledger.
-fn coins_of(holding: &Holding, party: u8, ledger: u8) -> u32
-    ensures { result ≡ coins_of holding.now party ledger }
+// The coins of a holding, if it is the payer's of the leg, on its ledger; else 0.
+fn coins_of(holding: &Holding, leg: &Leg) -> u32
+    ensures { result ≡ coins_of holding.now leg.now.payer leg.now.ledger }
 {
-    if holding.party == party && holding.ledger == ledger {
+    if holding.party == leg.payer && holding.ledger == leg.ledger {
         holding.asset
     } else {
         0
     }
 }
 
-// The coins that a party holds on a ledger. The sum is wide enough for any slice.
-fn coins_held(holdings: &[Holding], party: u8, ledger: u8) -> u128
-    ensures { result ≡ coins_held holdings.now party ledger }
+// The coins that the leg's payer holds on its ledger. The sum is wide enough for any slice.
+fn coins_held(holdings: &[Holding], leg: &Leg) -> u128
+    ensures { result ≡ sum_by (λ h. coins_of h leg.now.payer leg.now.ledger) holdings.now }
 {
-    let mut sum: u128 = 0;
-    for holding in holdings {
-        sum += coins_of(holding, party, ledger) as u128;
-    }
-    sum
+    holdings
+        .iter()
+        .map(|holding| u128::from(coins_of(holding, leg)))
+        .sum()
 }
 
-// The coins of a leg, if the party pays it on the ledger.
-fn coins_paid(leg: &Leg, party: u8, ledger: u8) -> u32
-    ensures { result ≡ coins_paid leg.now party ledger }
+// The coins of a leg, this one or another, if the payer of `leg` pays it on the same ledger; else 0.
+// Not one function with `coins_of`: a leg names its payer, a holding its party, and a trait of both would be longer than the two.
+fn coins_paid(other: &Leg, leg: &Leg) -> u32
+    ensures { result ≡ coins_paid other.now leg.now.payer leg.now.ledger }
 {
-    if leg.payer == party && leg.ledger == ledger {
-        leg.asset
+    if other.payer == leg.payer && other.ledger == leg.ledger {
+        other.asset
     } else {
         0
     }
 }
 
-// The coins that the party's legs on the ledger come to, up to and including leg `last`.
-fn coins_owed(legs: &[Leg], last: usize, party: u8, ledger: u8) -> u128
-    requires { last < length legs.now }
-    ensures { result ≡ coins_owed legs.now (suc last) party ledger }
+// The coins that the payer's legs among these come to, on the leg's ledger.
+fn coins_owed(legs: &[Leg], leg: &Leg) -> u128
+    ensures { result ≡ sum_by (λ l. coins_paid l leg.now.payer leg.now.ledger) legs.now }
 {
-    let mut sum: u128 = 0;
-    for i in 0..last + 1 {
-        sum += coins_paid(&legs[i], party, ledger) as u128;
-    }
-    sum
+    legs.iter()
+        .map(|other| u128::from(coins_paid(other, leg)))
+        .sum()
 }
 
-fn is_title(holding: &Holding, party: u8, ledger: u8, title: u32) -> bool
-    ensures { result ≡ is_title holding.now party ledger title }
+// Is the holding the leg's title, in its payer's hands?
+fn is_title(holding: &Holding, leg: &Leg) -> bool
+    ensures { result ≡ is_title holding.now leg.now.payer leg.now.ledger leg.now.asset }
 {
-    holding.party == party && holding.ledger == ledger && holding.asset == title
+    holding.party == leg.payer && holding.ledger == leg.ledger && holding.asset == leg.asset
 }
 
-fn holds_title(holdings: &[Holding], party: u8, ledger: u8, title: u32) -> bool
-    ensures { result ≡ holds_title holdings.now party ledger title }
+fn holds_title(holdings: &[Holding], leg: &Leg) -> bool
+    ensures { result ≡ list_any (λ h. is_title h leg.now.payer leg.now.ledger leg.now.asset) holdings.now }
 {
-    for holding in holdings {
-        if is_title(holding, party, ledger, title) {
-            return true;
-        }
-    }
-    false
+    holdings.iter().any(|holding| is_title(holding, leg))
 }
 
-fn names(leg: &Leg, ledger: u8, title: u32) -> bool
-    ensures { result ≡ names leg.now ledger title }
+// Does a leg, this one or another, name the title of `leg`? Not one function with `is_title`, as above `coins_paid`.
+fn names(other: &Leg, leg: &Leg) -> bool
+    ensures { result ≡ names other.now leg.now.ledger leg.now.asset }
 {
-    leg.ledger == ledger && leg.asset == title
+    other.ledger == leg.ledger && other.asset == leg.asset
 }
 
-// Does a leg before leg `end` name the title on the ledger?
-fn names_title(legs: &[Leg], end: usize, ledger: u8, title: u32) -> bool
-    requires { end < length legs.now }
-    ensures { result ≡ names_title legs.now end ledger title }
+// Does one of these legs name the leg's title?
+fn names_title(legs: &[Leg], leg: &Leg) -> bool
+    ensures { result ≡ list_any (λ l. names l leg.now.ledger leg.now.asset) legs.now }
 {
-    for i in 0..end {
-        if names(&legs[i], ledger, title) {
-            return true;
-        }
-    }
-    false
+    legs.iter().any(|other| names(other, leg))
 }
 
-fn covers(holdings: &[Holding], legs: &[Leg], i: usize, leg: &Leg) -> bool
+// Is leg i covered?
+fn covers(holdings: &[Holding], legs: &[Leg], i: usize) -> bool
     requires { i < length legs.now }
-    ensures { result ≡ covered_leg holdings.now legs.now i leg.now }
+    ensures { result ≡ covered holdings.now legs.now i }
 {
-    if leg.ledger < COIN_LEDGERS {
-        coins_owed(legs, i, leg.payer, leg.ledger) <= coins_held(holdings, leg.payer, leg.ledger)
+    let leg = &legs[i];
+    if holds_coins(leg.ledger) {
+        coins_owed(&legs[..=i], leg) <= coins_held(holdings, leg)
     } else {
-        holds_title(holdings, leg.payer, leg.ledger, leg.asset)
-            && !names_title(legs, i, leg.ledger, leg.asset)
+        holds_title(holdings, leg) && !names_title(&legs[..i], leg)
     }
 }
 
@@ -104,10 +94,5 @@ fn covers(holdings: &[Holding], legs: &[Leg], i: usize, leg: &Leg) -> bool
 pub fn uncovered(holdings: &[Holding], legs: &[Leg]) -> Option<usize>
     ensures { Uncovered holdings.now legs.now result }
 {
-    for (i, leg) in legs.iter().enumerate() {
-        if !covers(holdings, legs, i, leg) {
-            return Some(i);
-        }
-    }
-    None
+    (0..legs.len()).find(|i| !covers(holdings, legs, *i))
 }

@@ -1,2 +1,1 @@
-pub mod Helds
 pub mod Sets

@@ -1,10 +1,12 @@
 -- What records say, one after another, and the rules that a record obeys after those before it.
-use Rattle.std.specs.Prelude.{ℕ, ◌<◌, Bool, true, false, not, ◌&&◌, ◌||◌, List, [], ◌∷◌, ◌++◌, length, take, is_some, Some, None, vec_items, Option, ◌==◌, nat_le, nat_lt, slice_index_or, if◌then◌else◌, IsTrue, IsFalse}
+use Rattle.std.specs.Prelude.{ℕ, Bool, true, false, not, ◌&&◌, ◌||◌, List, [], ◌∷◌, ◌++◌, length, is_some, Some, None, vec_items, Option, ◌==◌, nat_le, nat_lt, if◌then◌else◌}
 use Rattle.filerules.specs.Fields.{terms_hold, holding_holds, leg_holds}
 use Rattle.filerules.specs.declared.draft.Draft.{Draft}
-use Rattle.records.specs.Records.{kind_of}
+use Rattle.records.specs.Records.{byte_of, kind_of}
+use Rattle.records.specs.declared.record.Kind.{Kind}
 use Rattle.records.specs.declared.record.Statement.{Statement}
 use Rattle.records.specs.declared.record.Statement.TheVariants as states
+use Rattle.std.specs.List.{list_any}
 use Rattle.swap.specs.Assets.{holds_coins}
 use Rattle.swap.specs.Limits.{max_holdings, max_legs}
 use Rattle.swap.specs.declared.faults.Reason.{Reason}
@@ -24,17 +26,21 @@ pub record Said : Type 0 where
 abbrev pub start : Said
 start = record { ahead = 0; number = None; terms = None; holdings = []; legs = [] }
 
+-- 0 before the first record
+abbrev pub ahead_of : Option Kind → ℕ
+ahead_of None = 0
+ahead_of (Some kind) = byte_of kind
+
 abbrev pub said : Draft → Said
 said d =
-    record { ahead = d.ahead; number = d.number; terms = d.terms; holdings = vec_items d.holdings; legs = vec_items d.legs }
+    record { ahead = ahead_of d.ahead; number = d.number; terms = d.terms; holdings = vec_items d.holdings; legs = vec_items d.legs }
 
 -- with one record more
 abbrev pub put : Said → Statement → Said
-put s (states.Heading n) = record { ahead = 1; number = Some n; terms = s.terms; holdings = s.holdings; legs = s.legs }
-put s (states.Terms t) = record { ahead = 2; number = s.number; terms = Some t; holdings = s.holdings; legs = s.legs }
-put s (states.Holding h) =
-    record { ahead = 3; number = s.number; terms = s.terms; holdings = s.holdings ++ h ∷ []; legs = s.legs }
-put s (states.Leg l) = record { ahead = 4; number = s.number; terms = s.terms; holdings = s.holdings; legs = s.legs ++ l ∷ [] }
+put s (states.Heading n) = record s { ahead = 1; number = Some n }
+put s (states.Terms t) = record s { ahead = 2; terms = Some t }
+put s (states.Holding h) = record s { ahead = 3; holdings = s.holdings ++ h ∷ [] }
+put s (states.Leg l) = record s { ahead = 4; legs = s.legs ++ l ∷ [] }
 
 -- its kind comes before that of the record ahead of it, or it is a holding or a leg before the terms
 abbrev pub late : Said → Statement → Bool
@@ -63,13 +69,7 @@ clash k h =
     (k.ledger == h.ledger) && (if holds_coins h.ledger then k.party == h.party else k.asset == h.asset)
 
 abbrev pub held : List Holding → Holding → Bool
-held [] h = false
-held (k ∷ ks) h = clash k h || held ks h
-
--- the first place of a list where a holding stands that clashes with h, where there is one
-abbrev pub FirstHeld : List Holding → Holding → Option ℕ → Type 0
-FirstHeld ks h None = IsFalse (held ks h)
-FirstHeld ks h (Some i) = (i < length ks) × IsFalse (held (take i ks) h) × ((d : Holding) → IsTrue (clash (slice_index_or ks i d) h))
+held ks h = list_any (λ k. clash k h) ks
 
 abbrev pub held_before : Said → Statement → Bool
 held_before s (states.Heading n) = false

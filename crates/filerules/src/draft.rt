@@ -1,18 +1,20 @@
-ghost use Rattle.std.specs.Prelude.{◌≡◌, is_some, MatchResult};
-ghost use Rattle.filerules.specs.Said.{said, start, put, fields_hold, full, clash, held, FirstHeld, fault_of};
+ghost use Rattle.std.specs.Prelude.{◌≡◌, MatchResult};
+ghost use Rattle.filerules.specs.Said.{said, start, put, late, fields_hold, full, clash, held, fault_of};
 
 use crate::fields::{holding_holds, leg_holds, terms_hold};
-use records::record::{Statement, TERMS};
+use records::record::{Kind, Statement};
 use std::alloc::{AllocError, Global};
+use swap::assets::holds_coins;
 use swap::faults::Reason;
-use swap::limits::{COIN_LEDGERS, MAX_HOLDINGS, MAX_LEGS};
+use swap::limits::{MAX_HOLDINGS, MAX_LEGS};
 use swap::records::{Holding, Leg, Terms};
 
 // What the records read so far say.
+// Contracts see it through `said`. A `Model` would be no plainer: the reader of files takes the fields apart.
 #[derive(Drop)]
 pub struct Draft {
-    // the kind of the last record, 0 before the first
-    pub ahead: u8,
+    // the kind of the last record
+    pub ahead: Option<Kind>,
     pub number: Option<u32>,
     pub terms: Option<Terms>,
     pub holdings: Vec<Holding>,
@@ -20,14 +22,14 @@ pub struct Draft {
 }
 
 // Are both coins of one party on one ledger, or one title of one ledger?
-fn clashes(k: &Holding, h: &Holding) -> bool
-    ensures { result ≡ clash k.now h.now }
+fn clashes(before: &Holding, holding: &Holding) -> bool
+    ensures { result ≡ clash before.now holding.now }
 {
-    k.ledger == h.ledger
-        && if h.ledger < COIN_LEDGERS {
-            k.party == h.party
+    before.ledger == holding.ledger
+        && if holds_coins(holding.ledger) {
+            before.party == holding.party
         } else {
-            k.asset == h.asset
+            before.asset == holding.asset
         }
 }
 
@@ -36,7 +38,7 @@ impl Draft {
         ensures { said result ≡ start }
     {
         Draft {
-            ahead: 0,
+            ahead: None,
             number: None,
             terms: None,
             holdings: Vec::new(heap),
@@ -44,13 +46,19 @@ impl Draft {
         }
     }
 
+    // Is the record's kind before the last one's, or is it a holding or a leg before the terms?
+    fn is_late(&self, statement: &Statement) -> bool
+        ensures { result ≡ late (said self.now) statement.now }
+    {
+        let kind = statement.kind();
+        self.ahead.is_some_and(|ahead| kind < ahead) || (kind > Kind::Terms && self.terms.is_none())
+    }
+
     fn fields_hold(&self, statement: &Statement) -> bool
         ensures { result ≡ fields_hold (said self.now) statement.now }
     {
-        let parties = match &self.terms {
-            Some(terms) => terms.parties,
-            None => 0,
-        };
+        // before the terms there are no parties
+        let parties = self.terms.map_or(0, |terms| terms.parties);
         match statement {
             Statement::Heading(_) => true,
             Statement::Terms(terms) => terms_hold(terms),
@@ -71,25 +79,18 @@ impl Draft {
         }
     }
 
-    // The first holding that stands for the same coins or the same title.
-    fn holding_before(&self, holding: &Holding) -> Option<usize>
-        ensures place { FirstHeld self.now.holdings.items holding.now result }
-        ensures test { is_some result ≡ held self.now.holdings.items holding.now }
+    // Does an earlier holding stand for the same coins or the same title?
+    fn is_held(&self, holding: &Holding) -> bool
+        ensures { result ≡ held self.now.holdings.items holding.now }
     {
-        for (i, before) in self.holdings.iter().enumerate() {
-            if clashes(before, holding) {
-                return Some(i);
-            }
-        }
-        None
+        self.holdings.iter().any(|before| clashes(before, holding))
     }
 
     // The rule that the record breaks: the one with the lowest number.
     pub fn judge(&self, statement: &Statement) -> Option<Reason>
         ensures { result ≡ fault_of (said self.now) statement.now }
     {
-        let kind = statement.kind();
-        if kind < self.ahead || (kind > TERMS && self.terms.is_none()) {
+        if self.is_late(statement) {
             return Some(Reason::OutOfOrder);
         }
         if !self.fields_hold(statement) {
@@ -98,15 +99,13 @@ impl Draft {
         if self.is_full(statement) {
             return Some(Reason::TooMany);
         }
-        if let Statement::Holding(holding) = statement {
-            if self.holding_before(holding).is_some() {
-                return Some(Reason::HeldTwice);
-            }
+        match statement {
+            Statement::Holding(holding) if self.is_held(holding) => Some(Reason::HeldTwice),
+            _ => None,
         }
-        None
     }
 
-    // Takes in one record more. Where memory is wanting, nothing changes.
+    // Takes in one record more. If memory runs out, nothing changes.
     pub fn put(&mut self, statement: Statement) -> Result<(), AllocError>
         ensures { MatchResult result (λ _. said self.new ≡ put (said self.old) statement) (λ _. said self.new ≡ said self.old) }
     {
@@ -117,7 +116,7 @@ impl Draft {
             Statement::Holding(holding) => self.holdings.push(holding)?,
             Statement::Leg(leg) => self.legs.push(leg)?,
         }
-        self.ahead = kind;
+        self.ahead = Some(kind);
         Ok(())
     }
 }

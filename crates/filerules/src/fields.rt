@@ -1,15 +1,16 @@
 // The rules on a record's own fields.
 ghost use Rattle.std.specs.Prelude.{◌≡◌};
 ghost use Rattle.filerules.specs.Fields.{within, terms_hold, holding_holds, leg_holds};
-ghost use Rattle.swap.specs.Assets.{asset_on};
 
-use swap::limits::{
-    COIN_LEDGERS, FILE_LEDGERS, MAX_COINS, MAX_DELTA, MAX_PARTIES, MIN_PARTIES, TITLES,
-};
+use swap::assets::is_asset_on;
+use swap::limits::{FILE_LEDGERS, MAX_DELTA, MAX_PARTIES, MIN_PARTIES};
 use swap::records::{Holding, Leg, Terms};
 use swap::sets::PartySet;
 
 // Is every party of the set one of the first `parties`?
+// `PartySet::within` speaks of each member, and the rule tests one number: with `PartySet::within` alone in `terms_hold`
+// no proof was found.
+#[tactic(auto, using(crate::proofs::Sets::within_is))]
 fn all_exist(set: PartySet, parties: u8) -> bool
     ensures { result ≡ within set.bits parties }
 {
@@ -19,39 +20,28 @@ fn all_exist(set: PartySet, parties: u8) -> bool
 pub fn terms_hold(terms: &Terms) -> bool
     ensures { result ≡ terms_hold terms.now }
 {
-    let n = terms.parties;
-    MIN_PARTIES <= n
-        && n <= MAX_PARTIES
+    let parties = terms.parties;
+    (MIN_PARTIES..=MAX_PARTIES).contains(&parties)
         && terms.leaders.bits != 0
-        && all_exist(terms.leaders, n)
-        && all_exist(terms.outsiders, n)
-        && 1 <= terms.delta
-        && terms.delta <= MAX_DELTA
+        && all_exist(terms.leaders, parties)
+        && all_exist(terms.outsiders, parties)
+        && (1..=MAX_DELTA).contains(&terms.delta)
 }
 
-// Can a ledger of a file hold the asset?
-fn asset_on(ledger: u8, asset: u32) -> bool
-    ensures { result ≡ asset_on ledger asset }
+pub fn holding_holds(parties: u8, holding: &Holding) -> bool
+    ensures { result ≡ holding_holds parties holding.now }
 {
-    if ledger < COIN_LEDGERS {
-        1 <= asset && asset <= MAX_COINS
-    } else {
-        asset < TITLES
-    }
+    holding.ledger < FILE_LEDGERS
+        && holding.party < parties
+        && is_asset_on(holding.ledger, holding.asset)
 }
 
-pub fn holding_holds(parties: u8, h: &Holding) -> bool
-    ensures { result ≡ holding_holds parties h.now }
+pub fn leg_holds(parties: u8, leg: &Leg) -> bool
+    ensures { result ≡ leg_holds parties leg.now }
 {
-    h.ledger < FILE_LEDGERS && h.party < parties && asset_on(h.ledger, h.asset)
-}
-
-pub fn leg_holds(parties: u8, l: &Leg) -> bool
-    ensures { result ≡ leg_holds parties l.now }
-{
-    l.payer < parties
-        && l.receiver < parties
-        && l.payer != l.receiver
-        && l.ledger < FILE_LEDGERS
-        && asset_on(l.ledger, l.asset)
+    leg.payer < parties
+        && leg.receiver < parties
+        && leg.payer != leg.receiver
+        && leg.ledger < FILE_LEDGERS
+        && is_asset_on(leg.ledger, leg.asset)
 }

@@ -1,14 +1,17 @@
 -- Joined routes over any relation: what holds of their parties, one relation for another, two routes end to end, and cycles turned.
 use Rattle.std.proofs.Common.{◌≡◌, ℕ, true, false, eqb, List, [], ◌∷◌, ◌++◌, sym, refl, ◌∙◌, subst, ⊎_elim, append_assoc, append-nil}
-use Rattle.std.proofs.ByRecursion.{All-append}
+use Rattle.std.proofs.lemmas.List.Elements.{All-cons, All-head, All-tail, All-push}
 use Rattle.std.proofs.lemmas.Bool.{both_ways, cases_Bool, eqb-true, eqb-false, ne_eqb, or_parts, or_from, or_cases}
-use Rattle.std.specs.List.{AllByRecursion}
+use Rattle.std.specs.List.{All}
 use Rattle.swap.specs.Routes.{mem, last, Joined, Reaches, Cycle}
 
-pub all_mem : (Q : ℕ → Type 0) (p : ℕ) (s : List ℕ) → AllByRecursion Q s → mem p s ≡ true → Q p
+pub all_mem : (Q : ℕ → Type 0) (p : ℕ) (s : List ℕ) → All Q s → mem p s ≡ true → Q p
 all_mem Q p [] a m = absurd (both_ways false refl m)
 all_mem Q p (x ∷ s) a m =
-    ⊎_elim (λ e. subst Q (sym (eqb-true p x e)) a.0) (λ e. all_mem Q p s a.1 e) (or_cases (eqb p x) (mem p s) m)
+    ⊎_elim
+    (λ e. subst Q (sym (eqb-true p x e)) (All-head Q x s a))
+    (λ e. all_mem Q p s (All-tail Q x s a) e)
+    (or_cases (eqb p x) (mem p s) m)
 
 mem_push : (y x : ℕ) (s : List ℕ) → mem y s ≡ false → (y ≡ x → ⊥) → mem y (s ++ x ∷ []) ≡ false
 mem_push y x [] m n = or_from (eqb y x) false (ne_eqb y x n) refl
@@ -70,22 +73,26 @@ module _ (P : ℕ → ℕ → Type 0) where
   turned x y s c = (joined_push y x s c.0.2 c.1 c.0.1, subst (λ q. P q y) (sym (last_push y x s)) c.0.0)
 
   -- a cycle begun with any of its parties
-  turn : (Q : ℕ → Type 0) (p x : ℕ) (s t : List ℕ) → Cycle P x (s ++ t) → AllByRecursion Q (x ∷ (s ++ t)) → mem p (x ∷ s) ≡ true
-      → (r : List ℕ) × Cycle P p r × AllByRecursion Q (p ∷ r)
+  turn : (Q : ℕ → Type 0) (p x : ℕ) (s t : List ℕ) → Cycle P x (s ++ t) → All Q (x ∷ (s ++ t)) → mem p (x ∷ s) ≡ true
+      → (r : List ℕ) × Cycle P p r × All Q (p ∷ r)
   turn Q p x [] t c a m =
       let e : x ≡ p = ⊎_elim (λ e. sym (eqb-true p x e)) (λ e. absurd (both_ways false refl e)) (or_cases (eqb p x) false m) in
-      (t, subst (λ q. Cycle P q t) e c, subst (λ q. AllByRecursion Q (q ∷ t)) e a)
+      (t, subst (λ q. Cycle P q t) e c, subst (λ q. All Q (q ∷ t)) e a)
   turn Q p x (y ∷ s) t c a m =
       let next : (s ++ t) ++ x ∷ [] ≡ s ++ (t ++ x ∷ []) = append_assoc s t (x ∷ []) in
+      let rest = All-tail Q x (y ∷ (s ++ t)) a in
       ⊎_elim
-      (λ e. let k = sym (eqb-true p x e) in (y ∷ (s ++ t), subst (λ q. Cycle P q (y ∷ (s ++ t))) k c, subst (λ q. AllByRecursion Q (q ∷ (y ∷ (s ++ t)))) k a))
+      (λ e.
+      let k = sym (eqb-true p x e) in
+      (y ∷ (s ++ t), subst (λ q. Cycle P q (y ∷ (s ++ t))) k c, subst (λ q. All Q (q ∷ (y ∷ (s ++ t)))) k a))
       (λ e. turn Q p y s (t ++ x ∷ [])
       (subst (Cycle P y) next (turned x y (s ++ t) c))
-      (a.1.0, subst (AllByRecursion Q) next (All-append Q (s ++ t) (x ∷ []) a.1.1 (a.0, tt))) e)
+      (All-cons Q y (s ++ (t ++ x ∷ [])) (All-head Q y (s ++ t) rest)
+      (subst (All Q) next (All-push Q (s ++ t) x (All-tail Q y (s ++ t) rest) (All-head Q x (y ∷ (s ++ t)) a)))) e)
       (or_cases (eqb p x) (mem p (y ∷ s)) m)
 
-  pub begun_at : (Q : ℕ → Type 0) (p x : ℕ) (s : List ℕ) → Cycle P x s → AllByRecursion Q (x ∷ s) → mem p (x ∷ s) ≡ true
-      → (r : List ℕ) × Cycle P p r × AllByRecursion Q (p ∷ r)
+  pub begun_at : (Q : ℕ → Type 0) (p x : ℕ) (s : List ℕ) → Cycle P x s → All Q (x ∷ s) → mem p (x ∷ s) ≡ true
+      → (r : List ℕ) × Cycle P p r × All Q (p ∷ r)
   begun_at Q p x s c a m =
       let e : s ≡ s ++ [] = sym (append-nil s) in
-      turn Q p x s [] (subst (Cycle P x) e c) (subst (λ r. AllByRecursion Q (x ∷ r)) e a) m
+      turn Q p x s [] (subst (Cycle P x) e c) (subst (λ r. All Q (x ∷ r)) e a) m

@@ -1,4 +1,5 @@
 pub mod Joins
+pub mod Made
 pub mod Sizes
 pub mod Statements
 pub mod Steps

@@ -1,9 +1,10 @@
 -- Sets of free parties: how many are in one, and one party taken out.
-use Rattle.std.proofs.Common.{◌≡◌, ℕ, zero, suc, ◌+◌, ◌<◌, ◌≤◌, Bool, true, false, eqb, List, [], ◌∷◌, length, get_or, set, sym, refl, ap, ◌∙◌, subst, ⊎_elim, arith}
+use Rattle.std.proofs.Common.{◌≡◌, ℕ, zero, suc, ◌<◌, ◌≤◌, Bool, true, false, eqb, List, [], ◌∷◌, length, set, sym, refl, ap, ◌∙◌, subst, ⊎_elim, arith}
 use Rattle.graph.specs.Search.{Free}
-use Rattle.std.proofs.lemmas.List.{get_or-set_same, get_or-set_other, get_or_past}
+use Rattle.std.proofs.lemmas.List.{get_or-set_other, get_or_past}
+use Rattle.std.proofs.lemmas.List.Elements.{All-nil, All-cons, All-head, All-tail}
 use Rattle.std.proofs.lemmas.Bool.{both_ways, cases_eq, cases_lt, or_parts, or_from, ne_eqb, eqb-false}
-use Rattle.std.specs.List.{AllByRecursion}
+use Rattle.std.specs.List.{All}
 use Rattle.swap.specs.Routes.{mem}
 
 abbrev pub size : List Bool → ℕ
@@ -33,25 +34,19 @@ free_before f z q h =
     ⊎_elim (λ e. absurd (taken f z (subst (Free (set f z false)) e h))) (λ n. sym (get_or-set_other f z q false false n) ∙ h) (cases_eq q z)
 
 -- whoever is not z is still free when z is taken
-pub free_after : (f : List Bool) (z : ℕ) (s : List ℕ) → mem z s ≡ false → AllByRecursion (Free f) s → AllByRecursion (Free (set f z false)) s
-free_after f z [] m a = tt
+pub free_after : (f : List Bool) (z : ℕ) (s : List ℕ) → mem z s ≡ false → All (Free f) s → All (Free (set f z false)) s
+free_after f z [] m a = All-nil (Free (set f z false))
 free_after f z (q ∷ s) m a =
     let p = or_parts (eqb z q) (mem z s) m in
-    (get_or-set_other f z q false false (λ e. eqb-false z q p.0 (sym e)) ∙ a.0, free_after f z s p.1 a.1)
+    All-cons (Free (set f z false)) q s
+    (get_or-set_other f z q false false (λ e. eqb-false z q p.0 (sym e)) ∙ All-head (Free f) q s a)
+    (free_after f z s p.1 (All-tail (Free f) q s a))
 
-pub not_on : (f : List Bool) (x : ℕ) (s : List ℕ) → (Free f x → ⊥) → AllByRecursion (Free f) s → mem x s ≡ false
+pub not_on : (f : List Bool) (x : ℕ) (s : List ℕ) → (Free f x → ⊥) → All (Free f) s → mem x s ≡ false
 not_on f x [] n a = refl
 not_on f x (q ∷ s) n a =
-    or_from (eqb x q) (mem x s) (ne_eqb x q (λ e. n (subst (Free f) (sym e) a.0))) (not_on f x s n a.1)
+    or_from (eqb x q) (mem x s)
+    (ne_eqb x q (λ e. n (subst (Free f) (sym e) (All-head (Free f) q s a)))) (not_on f x s n (All-tail (Free f) q s a))
 
 pub free_lt : (f : List Bool) (z : ℕ) → Free f z → z < length f
 free_lt f z h = ⊎_elim (λ l. l) (λ l. absurd (both_ways false refl (sym (get_or_past f z false l) ∙ h))) (cases_lt z (length f))
-
--- one place more of a list that is filled from its front
-pub filled : {X : Type 0} (f : List X) (z : ℕ) (b d : X) (g : ℕ → X) → z < length f → b ≡ g z → ((k : ℕ) → k < z → get_or f k d ≡ g k)
-    → (k : ℕ) → k < z + 1 → get_or (set f z b) k d ≡ g k
-filled f z b d g l e h k lt =
-    ⊎_elim
-    (λ s. ap (λ q. get_or (set f z b) q d) s ∙ get_or-set_same f z b d l ∙ e ∙ ap g (sym s))
-    (λ n. get_or-set_other f z k b d n ∙ h k (omega (arith, n)))
-    (cases_eq k z)

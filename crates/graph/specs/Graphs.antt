@@ -1,6 +1,6 @@
 -- Who pays whom in a list of legs, and what is said of it by joined routes.
 use Rattle.std.specs.Prelude.{◌≡◌, ℕ, ◌<◌, ◌≤◌, min, ◌⊎◌, List, ◌∷◌, length, Option, MatchOption, slice_index, IsTrue, IsFalse}
-use Rattle.std.specs.List.{AllByRecursion}
+use Rattle.std.specs.List.{All}
 use Rattle.swap.specs.Limits.{max_parties}
 use Rattle.swap.specs.Routes.{mem, last, Joined, Reaches, Cycle, Span}
 use Rattle.swap.specs.Sets.{member}
@@ -47,7 +47,7 @@ pub record Leaderless (P : ℕ → ℕ → Type 0) (leaders p : ℕ) : Type 0 wh
   pub by : List ℕ
   pub cycle : Cycle P from by
   pub on : IsTrue (mem p (from ∷ by))
-  pub none : AllByRecursion (λ q. IsFalse (member leaders q)) (from ∷ by)
+  pub none : All (λ q. IsFalse (member leaders q)) (from ∷ by)
 
 -- Party p is the lowest on a cycle that holds no leader.
 pub record Unled (P : ℕ → ℕ → Type 0) (n leaders p : ℕ) : Type 0 where

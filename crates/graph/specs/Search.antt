@@ -1,8 +1,10 @@
 -- What the search for routes finds: ways, head first, through parties that are still free.
-use Rattle.std.specs.Prelude.{◌≡◌, ℕ, suc, ◌+◌, ◌<◌, ◌≤◌, max, Bool, false, not, ◌&&◌, List, [], ◌∷◌, length, nat_lt, slice_index, slice_index_or, slice_set, if◌then◌else◌, IsTrue}
-use Rattle.std.specs.List.{AllByRecursion}
-use Rattle.swap.specs.Routes.{last, Cycle}
+use Rattle.std.specs.Prelude.{◌≡◌, ℕ, suc, ◌+◌, ◌<◌, ◌≤◌, max, ◌⊎◌, Bool, MatchBool, false, not, ◌&&◌, List, [], ◌∷◌, length, nat_lt, slice_index, slice_index_or, slice_set, if◌then◌else◌, IsTrue}
+use Rattle.std.specs.List.{All}
+use Rattle.swap.specs.Routes.{last, Reaches, Cycle}
 use Rattle.swap.specs.Sets.{member}
+use Rattle.swap.specs.Views.{leg_at}
+use Rattle.swap.specs.declared.records.Leg.{Leg}
 
 -- party z is in the set f
 abbrev pub Free : List Bool → ℕ → Type 0
@@ -34,7 +36,15 @@ Besides n out f = (z : ℕ) → slice_index_or f z false ≡ (nat_lt z n && not 
 pub record Round (P : ℕ → ℕ → Type 0) (f : List Bool) (p : ℕ) : Type 0 where
   pub by : List ℕ
   pub cycle : Cycle P p by
-  pub free : AllByRecursion (Free f) (p ∷ by)
+  pub free : All (Free f) (p ∷ by)
+
+-- x and y reach each other, or one does not reach the other
+abbrev pub Linked : (ℕ → ℕ → Type 0) → ℕ → ℕ → Bool → Type 0
+Linked P x y r = MatchBool r (Reaches P x y × Reaches P y x) ((Reaches P x y → ⊥) ⊎ (Reaches P y x → ⊥))
+
+-- a leg to p from an end of the table
+abbrev pub Closes : List Leg → List ℕ → ℕ → Type 0
+Closes legs t p = (i : ℕ) × (i < length legs) × ((leg_at legs i).receiver ≡ p) × (0 < slice_index t (leg_at legs i).payer)
 
 -- the largest entry of a table, 0 if it has none
 pub record Top (t : List ℕ) (w : ℕ) : Type 0 where

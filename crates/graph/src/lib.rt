@@ -2,10 +2,10 @@
 // Only parties that exist count: those below `parties` and below the limit. Legs of others are passed over.
 #![tactic(auto)]
 
-ghost use Rattle.std.specs.Prelude.{◌<◌};
-ghost use Rattle.graph.specs.Graphs.{Pays, Among, count, Table, Spanned, Connects, Leads};
-ghost use Rattle.graph.specs.Search.{Round, Top};
-ghost use Rattle.route.specs.Views.{parties_of};
+ghost use Rattle.std.specs.Prelude.{◌≡◌, ◌<◌, ◌≤◌, [], All, Contains, IfSome, MatchOption, nat_lt, slice_index};
+ghost use Rattle.graph.specs.Graphs.{Pays, Table, Spanned, Connects, Leads};
+ghost use Rattle.graph.specs.Search.{Round, Linked, Closes, Top};
+ghost use Rattle.graph.specs.Sizes.{size, Paying};
 ghost use Rattle.swap.specs.Limits.{max_parties};
 ghost use Rattle.swap.specs.Routes.{Joined};
 ghost use Rattle.swap.specs.Sets.{Exactly};
@@ -18,114 +18,139 @@ use swap::sets::PartySet;
 
 mod search;
 
-// Does x pay a leg to y?
-pub fn pays(legs: &[Leg], x: u8, y: u8) -> bool
-    ensures { Exactly result (Pays legs.now x y) }
-{
-    for leg in legs {
-        if leg.payer == x && leg.receiver == y {
-            return true;
+// How many parties a swap has, and its legs.
+#[derive(Clone, Copy, Debug)]
+pub struct Graph<'a> {
+    pub parties: u8,
+    pub legs: &'a [Leg],
+}
+
+impl Graph<'_> {
+    // Does x pay a leg to y?
+    pub fn pays(&self, x: u8, y: u8) -> bool
+        ensures { Exactly result (Pays self.now.legs.now x y) }
+    {
+        self.legs
+            .iter()
+            .any(|leg| leg.payer == x && leg.receiver == y)
+    }
+
+    // Does each party of the route but the last pay a leg to the next?
+    pub fn joined(&self, route: &Route) -> bool
+        ensures { Exactly result (Joined (Pays self.now.legs.now) route.now) }
+    {
+        let parties = route.parties();
+        parties
+            .iter()
+            .zip(&parties[1..])
+            .all(|(x, y)| self.pays(*x, *y))
+    }
+
+    // For each end, the most parties on a joined route from x; 0 if there is none.
+    // A number, not an `Option`: 0 parties are on no route, and the span is the largest entry, with no case for an empty one.
+    #[tactic(auto, using(crate::proofs::Statements::table))]
+    pub fn longest(&self, x: u8) -> [u8; ROOM]
+        ensures { Table (Paying self.now) (size self.now) x result }
+    {
+        let mut free = besides(self.parties, PartySet::from(0));
+        let from = usize::from(x);
+        if from >= ROOM || !free[from] {
+            return [0; ROOM];
         }
+        free[from] = false;
+        row(self.legs, free, x)
     }
-    false
-}
 
-// Does each party of the route but the last pay a leg to the next?
-pub fn joined(legs: &[Leg], route: &Route) -> bool
-    ensures { Exactly result (Joined (Pays legs.now) (parties_of route.now)) }
-{
-    let parties = route.parties();
-    for i in 1..parties.len() {
-        if !pays(legs, parties[i - 1], parties[i]) {
-            return false;
+    // The most parties on a joined route.
+    // A loop: what a table promises is a relation, and a chain of `map` and `max` keeps nothing of it for a proof.
+    #[tactic(auto, using(crate::proofs::Statements::span_more, crate::proofs::Statements::span_all))]
+    pub fn span(&self) -> u8
+        ensures { Spanned (Paying self.now) (size self.now) result }
+    {
+        let mut most: u8 = 0;
+        for x in 0..self.count() {
+            most = most.max(top(&self.longest(x)));
         }
+        most
     }
-    true
+
+    // The lowest party that party 0 does not reach or that does not reach party 0.
+    pub fn cut_off(&self) -> Option<u8>
+        ensures { Connects (Paying self.now) (size self.now) result }
+    {
+        let there = self.longest(0);
+        (0..self.count()).find(|p| !self.is_linked(&there, *p))
+    }
+
+    // Do party 0, from which `there` has the longest routes, and p reach each other?
+    fn is_linked(&self, there: &[u8], p: u8) -> bool
+        requires table { Table (Paying self.now) (size self.now) 0 there.now }
+        requires exists { p < size self.now }
+        ensures { Linked (Paying self.now) 0 p result }
+    {
+        leads(there, p) && leads(&self.longest(p), 0)
+    }
+
+    // The lowest party on a cycle that holds no leader.
+    pub fn unled(&self, leaders: PartySet) -> Option<u8>
+        ensures { Leads (Paying self.now) (size self.now) leaders.bits result }
+    {
+        let free = besides(self.parties, leaders);
+        (0..self.count()).find(|p| round(self.legs, free, *p))
+    }
+
+    // How many parties there are: no more than the limit.
+    fn count(&self) -> u8
+        ensures { result ≡ size self.now }
+    {
+        self.parties.min(MAX_PARTIES)
+    }
 }
 
-// For each end, the most parties on a joined route from x; 0 if there is none.
-pub fn longest(parties: u8, legs: &[Leg], x: u8) -> [u8; ROOM]
-    ensures { Table (Among (count parties) legs.now) (count parties) x result }
+// Does a table have a route to this end?
+fn leads(table: &[u8], end: u8) -> bool
+    ensures { result ≡ nat_lt 0 (slice_index table.now end) }
 {
-    let mut free = besides(parties, PartySet { bits: 0 });
-    let from = x as usize;
-    if from >= ROOM || !free[from] {
-        return [0; ROOM];
-    }
-    free[from] = false;
-    row(legs, free, x)
+    table.get(usize::from(end)).is_some_and(|len| *len > 0)
 }
 
-// The largest entry of a table.
+// The largest entry of a table, 0 if it has none.
 fn top(table: &[u8]) -> u8
     ensures { Top table.now result }
 {
-    let mut most = 0;
-    for len in table {
-        if most < *len {
-            most = *len;
-        }
-    }
-    most
+    largest(table).unwrap_or(0)
 }
 
-// The most parties on a joined route.
-pub fn span(parties: u8, legs: &[Leg]) -> u8
-    ensures { Spanned (Among (count parties) legs.now) (count parties) result }
+// The largest entry of a table, if it has any.
+fn largest(table: &[u8]) -> Option<u8>
+    ensures all { MatchOption result (table.now ≡ []) (λ most. All (λ len. len ≤ most) table.now) }
+    ensures some { IfSome result (Contains table.now) }
 {
-    let mut most: u8 = 0;
-    for x in 0..parties.min(MAX_PARTIES) {
-        most = most.max(top(&longest(parties, legs, x)));
-    }
-    most
-}
-
-// The lowest party that party 0 does not reach or that does not reach party 0.
-pub fn cut_off(parties: u8, legs: &[Leg]) -> Option<u8>
-    ensures { Connects (Among (count parties) legs.now) (count parties) result }
-{
-    let there = longest(parties, legs, 0);
-    for p in 0..parties.min(MAX_PARTIES) {
-        let back = longest(parties, legs, p);
-        if there[p as usize] == 0 || back[0] == 0 {
-            return Some(p);
-        }
-    }
-    None
+    table.iter().copied().max()
 }
 
 // Does a cycle of free parties go through p?
+#[tactic(auto, using(crate::proofs::Statements::round_is))]
 fn round(legs: &[Leg], free: [bool; ROOM], p: u8) -> bool
     requires { p < max_parties }
     ensures { Exactly result (Round (Pays legs.now) free p) }
 {
-    let at = p as usize;
+    let at = usize::from(p);
     if !free[at] {
         return false;
     }
     let mut rest = free;
     rest[at] = false;
     let table = row(legs, rest, p);
-    for leg in legs {
-        let end = leg.payer as usize;
-        if leg.receiver == p && end < ROOM && table[end] > 0 {
-            return true;
-        }
-    }
-    false
+    closes(legs, &table, p)
 }
 
-// The lowest party on a cycle that holds no leader.
-pub fn unled(parties: u8, leaders: PartySet, legs: &[Leg]) -> Option<u8>
-    ensures { Leads (Among (count parties) legs.now) (count parties) leaders.bits result }
+// Does a party that a table has a route to pay a leg to p?
+fn closes(legs: &[Leg], table: &[u8], p: u8) -> bool
+    ensures { Exactly result (Closes legs.now table.now p) }
 {
-    let free = besides(parties, leaders);
-    for party in 0..parties.min(MAX_PARTIES) {
-        if round(legs, free, party) {
-            return Some(party);
-        }
-    }
-    None
+    legs.iter()
+        .any(|leg| leg.receiver == p && leads(table, leg.payer))
 }
 
 #[cfg(test)]
@@ -145,11 +170,15 @@ mod tests {
     #[test]
     fn ring(rt: HostRuntime) -> Result<(), Fail> {
         let legs = [leg(0, 1), leg(1, 2), leg(2, 0)];
-        assert_eq!(rt; span(3, &legs), 3);
-        assert_eq!(rt; cut_off(3, &legs), None);
-        assert_eq!(rt; unled(3, PartySet { bits: 0 }, &legs), Some(0));
+        let graph = Graph {
+            parties: 3,
+            legs: &legs,
+        };
+        assert_eq!(rt; graph.span(), 3);
+        assert_eq!(rt; graph.cut_off(), None);
+        assert_eq!(rt; graph.unled(PartySet { bits: 0 }), Some(0));
         let route = Route::from_parties(&[1, 2, 0]).ok_or(())?;
-        assert!(rt; joined(&legs, &route));
+        assert!(rt; graph.joined(&route));
         Ok(())
     }
 
@@ -163,13 +192,22 @@ mod tests {
             leg(0, 3),
             leg(3, 0),
         ];
-        assert_eq!(rt; span(4, &legs), 3);
-        assert_eq!(rt; unled(4, PartySet { bits: 1 }, &legs), None);
-        assert_eq!(rt; unled(4, PartySet { bits: 6 }, &legs), Some(0));
+        let graph = Graph {
+            parties: 4,
+            legs: &legs,
+        };
+        assert_eq!(rt; graph.span(), 3);
+        assert_eq!(rt; graph.unled(PartySet { bits: 1 }), None);
+        assert_eq!(rt; graph.unled(PartySet { bits: 6 }), Some(0));
     }
 
     #[test]
     fn chain(rt: HostRuntime) {
-        assert_eq!(rt; cut_off(3, &[leg(0, 1), leg(1, 2)]), Some(1));
+        let legs = [leg(0, 1), leg(1, 2)];
+        let graph = Graph {
+            parties: 3,
+            legs: &legs,
+        };
+        assert_eq!(rt; graph.cut_off(), Some(1));
     }
 }

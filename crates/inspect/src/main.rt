@@ -1,47 +1,56 @@
 // Reads a swap file, from the path that is named or from standard input, and says what it holds or why it is refused.
 #![tactic(auto)]
 
-use anyhow::anyhow;
 use plan::plan::Plan;
 use records::reader::Reader;
 use records::record::Statement;
-use std::io::Read;
+use std::io::{self, Read};
 use std::process::ExitCode;
 use std::{env, fs};
 use swap::faults::{Fault, Layer};
 use swapfile::refusal::Refusal;
+use thiserror::Error;
+
+// Why nothing can be said of a file.
+#[derive(Debug, Drop, Error)]
+enum Failure {
+    #[error("inspect takes one file, or none to read standard input")]
+    Usage,
+    #[error("cannot read {path}: {reason}")]
+    Unreadable { path: String, reason: io::Error },
+    #[error("out of memory")]
+    Memory,
+    #[error("{0}")]
+    Io(#[from] io::Error),
+}
 
 // The bytes of the file that is named, or of standard input where none is.
-fn input(rt: &HostRuntime) -> anyhow::Result<Vec<u8>> {
-    let mut words = env::args(rt)?;
-    let _ = words.next();
+fn input(rt: &HostRuntime) -> Result<Vec<u8>, Failure> {
+    let mut words = env::args(rt)?.skip(1);
     let Some(path) = words.next() else {
         let mut bytes = Vec::new(rt.alloc());
         rt.stdin().read_to_end(&mut bytes)?;
         return Ok(bytes);
     };
     if words.next().is_some() {
-        return Err(anyhow!("inspect takes one file, or none to read standard input"));
+        return Err(Failure::Usage);
     }
-    match fs::read(rt, path.as_str()) {
-        Ok(bytes) => Ok(bytes),
-        Err(error) => Err(anyhow!(format!(in rt.alloc(); "cannot read {path}: {error}")?)),
-    }
+    fs::read(rt, path.as_str()).map_err(|reason| Failure::Unreadable { path, reason })
 }
 
-fn show(rt: &HostRuntime, at: usize, leg: usize, statement: Statement) -> anyhow::Result<()> {
+fn show(rt: &HostRuntime, at: usize, leg: usize, statement: Statement) -> io::Result<()> {
     match statement {
-        Statement::Heading(number) => println!(rt; "{at}: heading, swap {number}")?,
-        Statement::Terms(terms) => println!(rt; "{at}: terms, {terms}")?,
-        Statement::Holding(holding) => println!(rt; "{at}: holding, {holding}")?,
-        Statement::Leg(part) => println!(rt; "{at}: leg {leg}, {part}")?,
+        Statement::Heading(number) => println!(rt; "{at}: heading, swap {number}"),
+        Statement::Terms(terms) => println!(rt; "{at}: terms, {terms}"),
+        Statement::Holding(holding) => println!(rt; "{at}: holding, {holding}"),
+        Statement::Leg(part) => println!(rt; "{at}: leg {leg}, {part}"),
     }
-    Ok(())
 }
 
 // Each record before byte `end`, in words, with its place.
-fn show_records(rt: &HostRuntime, bytes: &[u8], end: usize) -> anyhow::Result<()> {
+fn show_records(rt: &HostRuntime, bytes: &[u8], end: usize) -> io::Result<()> {
     let mut reader = Reader::new(bytes);
+    // counted by hand: legs have numbers of their own among the records, and a chain over fallible records is no plainer
     let mut legs = 0usize;
     while let Ok(Some((at, record))) = reader.next() {
         if at >= end {
@@ -57,40 +66,39 @@ fn show_records(rt: &HostRuntime, bytes: &[u8], end: usize) -> anyhow::Result<()
     Ok(())
 }
 
-fn show_plan(rt: &HostRuntime, plan: &Plan) -> anyhow::Result<()> {
+fn show_plan(rt: &HostRuntime, plan: &Plan) -> io::Result<()> {
     let number = plan.number();
     let terms = plan.terms();
     let span = plan.span();
     let last = plan.last_tick();
-    println!(rt; "accepted: swap {number}, {terms}, span {span}, last tick {last}")?;
-    Ok(())
+    println!(rt; "accepted: swap {number}, {terms}, span {span}, last tick {last}")
 }
 
-fn show_refusal(rt: &HostRuntime, fault: Fault) -> anyhow::Result<()> {
+fn show_refusal(rt: &HostRuntime, fault: Fault) -> io::Result<()> {
     let number = fault.number();
     let place = fault.place;
     println!(rt; "refused {number} place {place}")?;
-    println!(rt; "{fault}")?;
-    Ok(())
+    println!(rt; "{fault}")
 }
 
-fn run(rt: &HostRuntime) -> anyhow::Result<()> {
+fn run(rt: &HostRuntime) -> Result<(), Failure> {
     let bytes = input(rt)?;
     match Plan::read(rt.alloc(), &bytes) {
         Ok(plan) => {
             show_records(rt, &bytes, bytes.len())?;
-            show_plan(rt, &plan)
+            show_plan(rt, &plan)?;
         }
         Err(Refusal::Fault(fault)) => {
             let end = match fault.layer() {
                 Layer::File => fault.place,
-                _ => bytes.len(),
+                Layer::Plan | Layer::Run => bytes.len(),
             };
             show_records(rt, &bytes, end)?;
-            show_refusal(rt, fault)
+            show_refusal(rt, fault)?;
         }
-        Err(Refusal::Memory) => Err(anyhow!("out of memory")),
+        Err(Refusal::Memory) => return Err(Failure::Memory),
     }
+    Ok(())
 }
 
 fn main(rt: HostRuntime) -> ExitCode {

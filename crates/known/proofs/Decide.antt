@@ -7,7 +7,8 @@ use Rattle.plan.specs.Check.{Accepted}
 use Rattle.swap.proofs.Below.{all_in}
 use Rattle.swap.specs.Below.{all_below}
 use Rattle.std.proofs.lemmas.Bool.{both_ways, and_parts, or_cases, eqb-true, eq-eqb, leb-true, ltb-true, not-true}
-use Rattle.std.specs.List.{AllByRecursion}
+use Rattle.std.proofs.lemmas.List.Elements.{All-nil, All-cons}
+use Rattle.std.specs.List.{All}
 use Rattle.swap.specs.Routes.{mem, last, Joined, Reaches, Cycle, Span}
 use Rattle.swap.specs.Sets.{member}
 use Rattle.swap.specs.Views.{leg_at}
@@ -54,22 +55,24 @@ module _ (legs : List Leg) (n : ℕ) where
         (ltb-true (leg_at legs i).payer n a.0, ltb-true (leg_at legs i).receiver n a.1)
 
     -- a joined route of parties that pay or are paid is one of parties below n
-    tails : (x : ℕ) (r : List ℕ) → x < n → Joined (Pays legs) (x ∷ r) → AllByRecursion (λ y. y < n) (x ∷ r)
-    tails x [] h j = (h, tt)
+    tails : (x : ℕ) (r : List ℕ) → x < n → Joined (Pays legs) (x ∷ r) → All (λ y. y < n) (x ∷ r)
+    tails x [] h j = All-cons (λ z. z < n) x [] h (All-nil (λ z. z < n))
     tails x (y ∷ r) h j =
         let p = j.0 in
         let l = legs_inside p.0 p.1 in
-        (h, tails y r (subst (λ q. q < n) p.3 l.1) j.2)
+        All-cons (λ z. z < n) x (y ∷ r) h (tails y r (subst (λ q. q < n) p.3 l.1) j.2)
 
     pub pays_below : (x y : ℕ) → Pays legs x y → x < n
     pays_below x y p = subst (λ q. q < n) p.2 (legs_inside p.0 p.1).0
 
     -- of a plan whose routes end with level k
     module _ (k : ℕ) (ended : none (level legs n k) ≡ true) where
-      pub of_all : (p : List ℕ → Bool) → passes legs n k p ≡ true → (x : ℕ) (r : List ℕ) → x < n → Joined (Pays legs) (x ∷ r) → p (x ∷ r) ≡ true
+      pub of_all : (p : List ℕ → Bool) → passes legs n k p ≡ true → (x : ℕ) (r : List ℕ) → x < n → Joined (Pays legs) (x ∷ r)
+          → p (x ∷ r) ≡ true
       of_all p t x r h j = every_route legs n k p ended t (x ∷ r) j (tails x r h j)
 
-      spans : (w : ℕ) → 1 ≤ w → met legs n k (λ r. eqb (length r) w) ≡ true → passes legs n k (λ r. leb (length r) w) ≡ true → Span (Pays legs) n w
+      spans : (w : ℕ) → 1 ≤ w → met legs n k (λ r. eqb (length r) w) ≡ true → passes legs n k (λ r. leb (length r) w) ≡ true
+          → Span (Pays legs) n w
       spans w one m t =
           let s = some_route legs n k (λ r. eqb (length r) w) m in
           record { some = (s.0, s.1, s.2, eqb-true (length s.0) w s.3); most = most }
@@ -121,7 +124,8 @@ accepts terms holdings legs k w =
     && (met legs terms.parties k (λ r. eqb (length r) w)
     && (passes legs terms.parties k (λ r. leb (length r) w) && leb 1 w))))))
 
-pub accepted : (terms : Terms) (holdings : List Holding) (legs : List Leg) (k w : ℕ) → accepts terms holdings legs k w ≡ true → Accepted terms holdings legs w
+pub accepted : (terms : Terms) (holdings : List Holding) (legs : List Leg) (k w : ℕ) → accepts terms holdings legs k w ≡ true
+    → Accepted terms holdings legs w
 accepted terms holdings legs k w t =
     let n = terms.parties in
     let t1 = and_parts _ _ t in

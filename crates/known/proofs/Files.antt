@@ -13,7 +13,9 @@ use Rattle.records.specs.Records.{encode, Fits}
 use Rattle.records.specs.declared.record.Statement.{Statement}
 use Rattle.records.specs.declared.record.Statement.TheVariants as states
 use Rattle.std.proofs.lemmas.Bool.{and_parts, leb-true, ltb-true, both_ways, eq-eqb, not-true}
+use Rattle.std.proofs.lemmas.List.Elements.{All-from_recursion}
 use Rattle.std.specs.List.{flat_map}
+use Rattle.swap.specs.Sets.{member}
 use Rattle.swap.specs.Limits.{max_file}
 use Rattle.swap.specs.Routes.{last, Reaches}
 use Rattle.swap.specs.declared.faults.Reason.TheVariants.{CutShort, NoLeader, NotConnected}
@@ -64,7 +66,8 @@ lawful_sound s (r ∷ rs) e =
     (fits_sound r a.0, none_sound (fault_of s r) b.0, lawful_sound (put s r) rs b.1)
 
 -- what lawful records with terms and legs say is the file's answer
-answered : (rs : List Statement) (bytes : List ℕ) (c : Content) → bytes ≡ flat_map encode rs → (leb 1 (length bytes) && leb (length bytes) max_file) ≡ true →
+answered : (rs : List Statement) (bytes : List ℕ) (c : Content) → bytes ≡ flat_map encode rs
+    → (leb 1 (length bytes) && leb (length bytes) max_file) ≡ true →
     lawful start rs ≡ true → whole (after start rs) ≡ Some c → Answer bytes (Ok c)
 answered rs bytes c e z l w =
     let a = and_parts (leb 1 (length bytes)) (leb (length bytes) max_file) z in
@@ -77,15 +80,28 @@ answered rs bytes c e z l w =
     }
 
 -- and if its plan passes the test, the file means its swap
-means : (bytes : List ℕ) (c : Content) (k w : ℕ) → Answer bytes (Ok c) → accepts c.terms c.holdings c.legs k w ≡ true → Means bytes (Ok (swap_in c w))
+means : (bytes : List ℕ) (c : Content) (k w : ℕ) → Answer bytes (Ok c) → accepts c.terms c.holdings c.legs k w ≡ true
+    → Means bytes (Ok (swap_in c w))
 means bytes c k w a t = (c, w, a, accepted c.terms c.holdings c.legs k w t, refl)
 
-gives : (bytes : List ℕ) (c : Content) (w : ℕ) → Means bytes (Ok (swap_in c w)) → Gives bytes (results.accepted c.number w ((2 * w + 1) * c.terms.delta))
+gives : (bytes : List ℕ) (c : Content) (w : ℕ) → Means bytes (Ok (swap_in c w))
+    → Gives bytes (results.accepted c.number w ((2 * w + 1) * c.terms.delta))
 gives bytes c w m = (swap_in c w, m, refl, refl, refl)
 
 -- what the records say, where they say it
 abbrev pub content : Option Content → Content
-content None = record { number = 0; terms = record { parties = 0; leaders = record { bits = 0 }; outsiders = record { bits = 0 }; delta = 0 }; holdings = []; legs = [] }
+content None = record {
+  number = 0;
+  terms = record {
+    parties = 0;
+    leaders = record { bits = 0 };
+    outsiders = record { bits = 0 };
+    delta =
+        0;
+  };
+  holdings = [];
+  legs = [];
+}
 content (Some c) = c
 
 abbrev pub said : List Statement → Content
@@ -111,7 +127,8 @@ pub headed_given : Gives (heading42 ++ two) (results.accepted 42 2 5)
 unfolding all_below some_below
 headed_given =
     let rs = states.Heading 42 ∷ two_records in
-    gives (heading42 ++ two) (said rs) 2 (means (heading42 ++ two) (said rs) 2 2 (answered rs (heading42 ++ two) (said rs) refl refl refl refl) refl)
+    gives (heading42 ++ two) (said rs) 2 (means (heading42 ++ two) (said rs) 2 2
+    (answered rs (heading42 ++ two) (said rs) refl refl refl refl) refl)
 
 pub cut_given : Gives (take 34 two) (results.refused 4 27)
 cut_given =
@@ -131,11 +148,13 @@ cut_given =
       refl,
     )
 
-given : (rs : List Statement) → (leb 1 (length (flat_map encode rs)) && leb (length (flat_map encode rs)) max_file) ≡ true → lawful start rs ≡ true →
+given : (rs : List Statement) → (leb 1 (length (flat_map encode rs)) && leb (length (flat_map encode rs)) max_file) ≡ true
+    → lawful start rs ≡ true →
     whole (after start rs) ≡ Some (said rs) → Answer (flat_map encode rs) (Ok (said rs))
 given rs z l w = answered rs (flat_map encode rs) (said rs) refl z l w
 
-pub ring_means : (outsiders : ℕ) → lawful start (ring outsiders) ≡ true → Means (flat_map encode (ring outsiders)) (Ok (swap_in (said (ring outsiders)) 3))
+pub ring_means : (outsiders : ℕ) → lawful start (ring outsiders) ≡ true
+    → Means (flat_map encode (ring outsiders)) (Ok (swap_in (said (ring outsiders)) 3))
 unfolding all_below some_below
 ring_means outsiders l = means (flat_map encode (ring outsiders)) (said (ring outsiders)) 3 3 (given (ring outsiders) refl l refl) refl
 
@@ -144,7 +163,8 @@ ring_given = gives (flat_map encode (ring 0)) (said (ring 0)) 3 (ring_means 0 re
 
 pub star_given : Gives (flat_map encode (star 1)) (results.accepted 0 3 7)
 unfolding all_below some_below
-star_given = gives (flat_map encode (star 1)) (said (star 1)) 3 (means (flat_map encode (star 1)) (said (star 1)) 3 3 (given (star 1) refl refl refl) refl)
+star_given = gives (flat_map encode (star 1)) (said (star 1)) 3
+    (means (flat_map encode (star 1)) (said (star 1)) 3 3 (given (star 1) refl refl refl) refl)
 
 -- the route 0, 3 is a cycle without leader 1 or 2
 pub star_refused : Gives (flat_map encode (star 6)) (results.refused 12 0)
@@ -165,7 +185,7 @@ star_refused =
                 by = 3 ∷ [];
                 cycle = (((4, ltb-true 4 6 refl, refl, refl), refl, tt), (5, ltb-true 5 6 refl, refl, refl));
                 on = refl;
-                none = (refl, (refl, tt));
+                none = All-from_recursion (λ q. member 6 q ≡ false) (0 ∷ 3 ∷ []) (refl, (refl, tt));
               };
               lowest = λ q h. absurd (omega arith);
             }),

@@ -4,8 +4,8 @@ use Rattle.swap.proofs.Below.{some_of, some_in}
 use Rattle.swap.specs.Below.{some_below}
 use Rattle.graph.specs.Graphs.{Pays}
 use Rattle.std.proofs.lemmas.Bool.{and_parts, and_from, both_ways, eq-eqb, not_from_false, cases_eq, eqb-true, not-true, or_cases}
-use Rattle.std.proofs.ByRecursion.{All-append}
-use Rattle.std.specs.List.{AllByRecursion}
+use Rattle.std.proofs.lemmas.List.Elements.{All-nil, All-cons, All-head, All-tail, All-append}
+use Rattle.std.specs.List.{All}
 use Rattle.swap.specs.Routes.{mem, Joined}
 use Rattle.swap.specs.Views.{leg_at}
 use Rattle.swap.specs.declared.records.Leg.{Leg}
@@ -101,11 +101,13 @@ in_cond : {X : Type 0} {x : X} (b : Bool) (y : X) (xs : List X) → In x xs → 
 in_cond true y xs i = later i
 in_cond false y xs i = i
 
-in_longer : (legs : List Leg) (n x y : ℕ) (r : List ℕ) → x < n → (pays legs x y && not (mem x (y ∷ r))) ≡ true → In (x ∷ y ∷ r) (longer legs n (y ∷ r))
+in_longer : (legs : List Leg) (n x y : ℕ) (r : List ℕ) → x < n → (pays legs x y && not (mem x (y ∷ r))) ≡ true
+    → In (x ∷ y ∷ r) (longer legs n (y ∷ r))
 in_longer legs zero x y r h e = absurd (omega arith)
 in_longer legs (suc n) x y r h e =
     ⊎_elim
-    (λ q. subst (λ z. In (x ∷ y ∷ r) (cond (pays legs z y && not (mem z (y ∷ r))) ((z ∷ y ∷ r) ∷ longer legs n (y ∷ r)) (longer legs n (y ∷ r)))) q
+    (λ q. subst (λ z. In (x ∷ y ∷ r) (cond (pays legs z y && not (mem z (y ∷ r))) ((z ∷ y ∷ r) ∷ longer legs n (y ∷ r))
+    (longer legs n (y ∷ r)))) q
     (subst (λ b. In (x ∷ y ∷ r) (cond b ((x ∷ y ∷ r) ∷ longer legs n (y ∷ r)) (longer legs n (y ∷ r)))) (sym e) here))
     (λ ne. in_cond _ _ _ (in_longer legs n x y r (omega (arith, ne)) e))
     (cases_eq x n)
@@ -117,24 +119,26 @@ in_all legs n x y r (q ∷ rs) h e here = in_left (all_longer legs n rs) (in_lon
 in_all legs n x y r (q ∷ rs) h e (later i) = in_right (longer legs n q) (in_all legs n x y r rs h e i)
 
 -- every joined route of k + 1 parties below n stands in its level
-pub in_level : (legs : List Leg) (n k : ℕ) (r : List ℕ) → Joined (Pays legs) r → AllByRecursion (λ x. x < n) r → length r ≡ suc k → In r (level legs n k)
+pub in_level : (legs : List Leg) (n k : ℕ) (r : List ℕ) → Joined (Pays legs) r → All (λ x. x < n) r → length r ≡ suc k
+    → In r (level legs n k)
 in_level legs n zero [] j a e = absurd j
-in_level legs n zero (x ∷ []) j a e = in_singles n x a.0
+in_level legs n zero (x ∷ []) j a e = in_singles n x (All-head (λ z. z < n) x [] a)
 in_level legs n zero (x ∷ (y ∷ r)) j a e = absurd (omega arith)
 in_level legs n (suc k) [] j a e = absurd j
 in_level legs n (suc k) (x ∷ []) j a e = absurd (omega arith)
 in_level legs n (suc k) (x ∷ (y ∷ r)) j a e =
-    in_all legs n x y r (level legs n k) a.0
+    in_all legs n x y r (level legs n k) (All-head (λ z. z < n) x (y ∷ r) a)
     (and_from (pays legs x y) (not (mem x (y ∷ r))) (pays_found legs x y j.0) (not_from_false _ j.1))
-    (in_level legs n k (y ∷ r) j.2 a.1 (omega arith))
+    (in_level legs n k (y ∷ r) j.2 (All-tail (λ z. z < n) x (y ∷ r) a) (omega arith))
 
 -- where a level is empty, no route has that many parties or more
-pub ends : (legs : List Leg) (n k : ℕ) → none (level legs n k) ≡ true → (r : List ℕ) → Joined (Pays legs) r → AllByRecursion (λ x. x < n) r → length r ≤ k
+pub ends : (legs : List Leg) (n k : ℕ) → none (level legs n k) ≡ true → (r : List ℕ) → Joined (Pays legs) r → All (λ x. x < n) r
+    → length r ≤ k
 ends legs n k e [] j a = absurd j
-ends legs n zero e (x ∷ []) j a = absurd (in_none e (in_singles n x a.0))
+ends legs n zero e (x ∷ []) j a = absurd (in_none e (in_singles n x (All-head (λ z. z < n) x [] a)))
 ends legs n (suc k) e (x ∷ []) j a = omega arith
 ends legs n k e (x ∷ (y ∷ r)) j a =
-    let i = ends legs n k e (y ∷ r) j.2 a.1 in
+    let i = ends legs n k e (y ∷ r) j.2 (All-tail (λ z. z < n) x (y ∷ r) a) in
     ⊎_elim
     (λ q. absurd (in_none e (in_level legs n k (x ∷ y ∷ r) j a (ap suc q))))
     (λ ne. omega (arith, ne))
@@ -152,7 +156,7 @@ passes_at legs n (suc k) m p e h =
 -- a test that all levels pass, up to an empty one, holds of every joined route of parties below n
 pub every_route :
     (legs : List Leg) (n k : ℕ) (p : List ℕ → Bool) → none (level legs n k) ≡ true → passes legs n k p ≡ true →
-    (r : List ℕ) → Joined (Pays legs) r → AllByRecursion (λ x. x < n) r → p r ≡ true
+    (r : List ℕ) → Joined (Pays legs) r → All (λ x. x < n) r → p r ≡ true
 every_route legs n k p e t [] j a = absurd j
 every_route legs n k p e t (x ∷ r) j a =
     in_every p (passes_at legs n k (length r) p t (ends legs n k e (x ∷ r) j a)) (in_level legs n (length r) (x ∷ r) j a refl)
@@ -160,39 +164,46 @@ every_route legs n k p e t (x ∷ r) j a =
 -- Every route in a level is a joined route of parties below n.
 module _ (legs : List Leg) (n : ℕ) where
   abbrev Found : List ℕ → Type 0
-  Found r = Joined (Pays legs) r × AllByRecursion (λ x. x < n) r
+  Found r = Joined (Pays legs) r × All (λ x. x < n) r
 
-  in_front : (m y : ℕ) (r : List ℕ) → m < n → Found (y ∷ r) → AllByRecursion Found (longer legs m (y ∷ r)) →
-      (b : Bool) → (pays legs m y && not (mem m (y ∷ r))) ≡ b → AllByRecursion Found (cond b ((m ∷ y ∷ r) ∷ longer legs m (y ∷ r)) (longer legs m (y ∷ r)))
+  in_front : (m y : ℕ) (r : List ℕ) → m < n → Found (y ∷ r) → All Found (longer legs m (y ∷ r)) →
+      (b : Bool) → (pays legs m y && not (mem m (y ∷ r))) ≡ b
+      → All Found (cond b ((m ∷ y ∷ r) ∷ longer legs m (y ∷ r)) (longer legs m (y ∷ r)))
   in_front m y r h f rest true e =
       let a = and_parts (pays legs m y) (not (mem m (y ∷ r))) e in
-      (((pays_sound legs m y a.0, not-true (mem m (y ∷ r)) a.1, f.0), (h, f.1)), rest)
+      All-cons Found (m ∷ y ∷ r) (longer legs m (y ∷ r))
+      ((pays_sound legs m y a.0, not-true (mem m (y ∷ r)) a.1, f.0), All-cons (λ z. z < n) m (y ∷ r) h f.1) rest
   in_front m y r h f rest false e = rest
 
-  longer_found : (m : ℕ) → m ≤ n → (r : List ℕ) → Found r → AllByRecursion Found (longer legs m r)
-  longer_found zero h r f = tt
-  longer_found (suc m) h [] f = tt
+  longer_found : (m : ℕ) → m ≤ n → (r : List ℕ) → Found r → All Found (longer legs m r)
+  longer_found zero h r f = All-nil Found
+  longer_found (suc m) h [] f = All-nil Found
   longer_found (suc m) h (y ∷ r) f =
       in_front m y r h f (longer_found m (omega arith) (y ∷ r) f) (pays legs m y && not (mem m (y ∷ r))) refl
 
-  all_found : (rs : List (List ℕ)) → AllByRecursion Found rs → AllByRecursion Found (all_longer legs n rs)
-  all_found [] f = tt
-  all_found (r ∷ rs) f = All-append Found (longer legs n r) (all_longer legs n rs) (longer_found n (omega arith) r f.0) (all_found rs f.1)
+  all_found : (rs : List (List ℕ)) → All Found rs → All Found (all_longer legs n rs)
+  all_found [] f = All-nil Found
+  all_found (r ∷ rs) f =
+      All-append Found (longer legs n r) (all_longer legs n rs) (longer_found n (omega arith) r (All-head Found r rs f))
+      (all_found rs (All-tail Found r rs f))
 
-  singles_found : (m : ℕ) → m ≤ n → AllByRecursion Found (singles m)
-  singles_found zero h = tt
-  singles_found (suc m) h = ((tt, (h, tt)), singles_found m (omega arith))
+  singles_found : (m : ℕ) → m ≤ n → All Found (singles m)
+  singles_found zero h = All-nil Found
+  singles_found (suc m) h =
+      All-cons Found (m ∷ []) (singles m) (tt, All-cons (λ z. z < n) m [] h (All-nil (λ z. z < n))) (singles_found m (omega arith))
 
-  level_found : (k : ℕ) → AllByRecursion Found (level legs n k)
+  level_found : (k : ℕ) → All Found (level legs n k)
   level_found zero = singles_found n (omega arith)
   level_found (suc k) = all_found (level legs n k) (level_found k)
 
-  some_found : (p : List ℕ → Bool) (rs : List (List ℕ)) → AllByRecursion Found rs → some p rs ≡ true → (r : List ℕ) × Found r × (p r ≡ true)
+  some_found : (p : List ℕ → Bool) (rs : List (List ℕ)) → All Found rs → some p rs ≡ true → (r : List ℕ) × Found r × (p r ≡ true)
   some_found p [] f e = absurd (both_ways false refl e)
-  some_found p (r ∷ rs) f e = ⊎_elim (λ h. (r, f.0, h)) (λ h. some_found p rs f.1 h) (or_cases (p r) (some p rs) e)
+  some_found p (r ∷ rs) f e =
+      ⊎_elim (λ h. (r, All-head Found r rs f, h)) (some_found p rs (All-tail Found r rs f)) (or_cases (p r) (some p rs) e)
 
   -- a test that one of the first k levels passes holds of some joined route
-  pub some_route : (k : ℕ) (p : List ℕ → Bool) → met legs n k p ≡ true → (r : List ℕ) × Joined (Pays legs) r × AllByRecursion (λ x. x < n) r × (p r ≡ true)
+  pub some_route : (k : ℕ) (p : List ℕ → Bool) → met legs n k p ≡ true
+      → (r : List ℕ) × Joined (Pays legs) r × All (λ x. x < n) r × (p r ≡ true)
   some_route zero p e = absurd (both_ways false refl e)
   some_route (suc k) p e =
       ⊎_elim

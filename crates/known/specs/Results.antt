@@ -6,7 +6,7 @@ use Rattle.protocol.specs.State.{Phase, Vacant, Held, Paid, Back, Transaction, O
 use Rattle.records.specs.Records.{encode}
 use Rattle.records.specs.declared.record.Statement.{Statement}
 use Rattle.records.specs.declared.record.Statement.TheVariants as states
-use Rattle.std.specs.List.{flat_map, AllByRecursion}
+use Rattle.std.specs.List.{flat_map, All}
 use Rattle.swap.specs.Faults.{number_of}
 use Rattle.swap.specs.Swaps.{Swap}
 use Rattle.swap.specs.Ticks.{last_tick}
@@ -96,14 +96,16 @@ known =
     ∷ run (flat_map encode (ring 0)) (undisturbed prompt 28 ((0, Paid, 6) ∷ (1, Paid, 5) ∷ (2, Paid, 4) ∷ []))
     ∷ run (flat_map encode (ring 0)) (undisturbed slow 28 ((0, Paid, 24) ∷ (1, Paid, 20) ∷ (2, Paid, 16) ∷ []))
     -- all outsiders: an open works at 12 and gets 19 at 13
-    ∷ run (flat_map encode (ring 7)) (disturbed ((11, 0, Open 0 5 lock0) ∷ (1, 1, Open 1 5 lock0) ∷ []) ((0, 0) ∷ (1, 19) ∷ []) ((0, Held, 12) ∷ (1, Vacant, 0) ∷ []))
+    ∷ run (flat_map encode (ring 7))
+    (disturbed ((11, 0, Open 0 5 lock0) ∷ (1, 1, Open 1 5 lock0) ∷ []) ((0, 0) ∷ (1, 19) ∷ []) ((0, Held, 12) ∷ (1, Vacant, 0) ∷ []))
     -- on leg 2 the key of party 0 alone opens at 16 and gets 27 at 17
     ∷ run (flat_map encode (ring 7)) (disturbed ((0, 2, Open 2 5 lock0) ∷ (15, 0, Key 2 (0 ∷ [])) ∷ []) ((1, 0) ∷ []) ((2, Paid, 16) ∷ []))
     ∷ run (flat_map encode (ring 7)) (disturbed ((0, 2, Open 2 5 lock0) ∷ (16, 0, Key 2 (0 ∷ [])) ∷ []) ((1, 27) ∷ []) ((2, Held, 1) ∷ []))
     -- a refund of leg 0 gets 31 at 24 and works at 25
-    ∷ run (flat_map encode (ring 7)) (disturbed ((0, 0, Open 0 5 lock0) ∷ (23, 0, Refund 0) ∷ (1, 0, Refund 0) ∷ []) ((1, 31) ∷ (2, 0) ∷ []) ((0, Back, 25) ∷ []))
+    ∷ run (flat_map encode (ring 7))
+    (disturbed ((0, 0, Open 0 5 lock0) ∷ (23, 0, Refund 0) ∷ (1, 0, Refund 0) ∷ []) ((1, 31) ∷ (2, 0) ∷ []) ((0, Back, 25) ∷ []))
     ∷ []
 
 -- every one of them comes out as told
 abbrev pub Known : Type 0
-Known = AllByRecursion Holds known
+Known = All Holds known

@@ -1,6 +1,6 @@
 -- What each call answers, and what it leaves: on one ledger first, then on a book of four.
-use Rattle.std.specs.Prelude.{◌≡◌, ℕ, ◌+◌, ◌-◌, Bool, not, ◌&&◌, Ok, Err, Result, ◌==◌, ◌≢◌, nat_lt, if◌then◌else◌}
-use Rattle.ledgers.specs.Stocks.{Counts, Stock, Rules, worth, is_ledger, is_party, is_account, is_holder, total, content, put}
+use Rattle.std.specs.Prelude.{◌≡◌, ◌≢◌, ℕ, ◌+◌, ◌-◌, Bool, not, ◌&&◌, ◌==◌, nat_lt, if◌then◌else◌, Result, Ok, Err}
+use Rattle.ledgers.specs.Stocks.{Counts, IsEmpty, Stock, Rules, worth, is_ledger, is_party, is_account, is_holder, total, content, put}
 use Rattle.ledgers.specs.declared.refusals.Refusal.{Refusal}
 use Rattle.ledgers.specs.declared.refusals.Refusal.TheVariants.{OutOfRange, OverCeiling, AccountTaken, TooLittle, AccountEmpty}
 use Rattle.swap.specs.declared.records.Holder.{Holder}
@@ -70,7 +70,7 @@ abbrev pub on_ledger : ℕ → (Counts → Counts) → Stock → Stock
 on_ledger ledger effect s l h u = if l == ledger then effect (s l) h u else s l h u
 
 abbrev pub Cleared : Stock → Type 0
-Cleared after = (l : ℕ) (h : Holder) (u : ℕ) → after l h u ≡ 0
+Cleared after = (l : ℕ) → IsEmpty (after l)
 
 module _ (k : Rules) (ledger : ℕ) where
   abbrev pub Credited : ℕ → ℕ → Stock → Answer → Stock → Type 0

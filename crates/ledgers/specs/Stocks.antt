@@ -1,6 +1,7 @@
 -- What a book means: its stock.
-use Rattle.std.specs.Prelude.{ℕ, ◌+◌, ◌<◌, ◌≤◌, Bool, false, ◌==◌, nat_lt, if◌then◌else◌, IsTrue}
+use Rattle.std.specs.Prelude.{◌≡◌, ℕ, ◌+◌, ◌<◌, ◌≤◌, Bool, false, ◌==◌, nat_lt, if◌then◌else◌, IsTrue}
 pub use Rattle.swap.specs.Assets.{Rules, worth, coin_rules, title_rules}
+pub use Rattle.swap.specs.Holders.{is_party, is_account, is_holder}
 use Rattle.swap.specs.Limits.{book_ledgers, max_legs, max_parties}
 use Rattle.swap.specs.Below.{sum_below}
 use Rattle.swap.specs.declared.records.Holder.{Holder}
@@ -10,6 +11,10 @@ use Rattle.swap.specs.declared.records.Holder.TheVariants.{Party, Escrow}
 abbrev pub Counts : Type 0
 Counts = Holder → ℕ → ℕ
 
+-- nothing is on a ledger
+abbrev pub IsEmpty : Counts → Type 0
+IsEmpty f = (h : Holder) (u : ℕ) → f h u ≡ 0
+
 -- what is in a book: the counts of each ledger
 abbrev pub Stock : Type 0
 Stock = ℕ → Counts
@@ -18,20 +23,9 @@ Stock = ℕ → Counts
 abbrev pub Lawful : Rules → Type 0
 Lawful k = (asset : ℕ) → IsTrue (k.valid asset) → (1 ≤ k.amount asset) × (k.unit asset < k.units)
 
--- the ranges of a book's numbers
+-- the ledgers that there can be
 abbrev pub is_ledger : ℕ → Bool
 is_ledger ledger = nat_lt ledger book_ledgers
-
-abbrev pub is_party : ℕ → Bool
-is_party party = nat_lt party max_parties
-
--- each leg has the account of its number
-abbrev pub is_account : ℕ → Bool
-is_account account = nat_lt account max_legs
-
-abbrev pub is_holder : Holder → Bool
-is_holder (Party p) = is_party p
-is_holder (Escrow a) = is_account a
 
 abbrev pub same : Holder → Holder → Bool
 same (Party p) (Party q) = p == q

@@ -1,5 +1,6 @@
 ghost use Rattle.std.specs.Prelude.{◌≡◌};
-ghost use Rattle.ledgers.specs.Laws.{CallsAreSteps, CreditsRaiseTotals, DepositsComeBack, DepositsKeepTotals, ReleasesKeepTotals, PaidThrough, SameTotals, Unmoved};
+ghost use Rattle.ledgers.specs.Laws.{CallsAreSteps, CreditsRaiseTotals, DepositsComeBack, DepositsKeepTotals, ReleasesKeepTotals};
+ghost use Rattle.ledgers.specs.Laws.{PaidThrough, SameTotals, Unmoved};
 
 use crate::books::Ledgers;
 use crate::kinds::Kind;
@@ -31,9 +32,9 @@ pub fn pay_through<K: Kind, B: Ledgers<K>>(
     receiver: u8,
     asset: u32,
 ) -> Result<(), Refusal>
-    ensures did { PaidThrough K.Kind.rules ledger payer account receiver asset (B.Ledgers.stock book.old) result (B.Ledgers.stock book.new) }
-    ensures kept { SameTotals (B.Ledgers.stock book.old) (B.Ledgers.stock book.new) }
-    ensures back { receiver ≡ payer → Unmoved K.Kind.rules (B.Ledgers.stock book.old) (B.Ledgers.stock book.new) }
+    ensures did { PaidThrough K.rules ledger payer account receiver asset (B.stock book.old) result (B.stock book.new) }
+    ensures kept { SameTotals (B.stock book.old) (B.stock book.new) }
+    ensures back { receiver ≡ payer → Unmoved K.rules (B.stock book.old) (B.stock book.new) }
 {
     book.deposit(ledger, payer, account, asset)?;
     book.release(ledger, account, receiver)

@@ -5,4 +5,5 @@ pub mod books;
 pub mod four;
 pub mod kinds;
 pub mod laws;
+pub mod places;
 pub mod refusals;

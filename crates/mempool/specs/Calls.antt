@@ -1,6 +1,5 @@
 -- What a call does to the list of transactions that wait in a mempool.
-use Rattle.std.specs.Prelude.{◌≡◌, ℕ, ◌+◌, ◌<◌, ◌≤◌, Bool, ◌&&◌, ◌||◌, List, [], ◌∷◌, map, length, Some, None, Ok, Err, Option, Result, ◌==◌, nat_lt, slice_index_or, IsTrue, IsFalse}
-use Rattle.std.specs.List.{AllByRecursion}
+use Rattle.std.specs.Prelude.{◌≡◌, ℕ, ◌+◌, ◌<◌, ◌≤◌, Bool, ◌&&◌, ◌||◌, List, [], ◌∷◌, map, length, Some, None, Ok, Err, Option, Result, ◌==◌, nat_lt, All, IsTrue, IsFalse, MatchOption}
 use Rattle.swap.specs.Limits.{max_lines}
 use Rattle.swap.specs.Routes.{mem}
 use Rattle.swap.specs.declared.records.Waiting.{Waiting}
@@ -36,12 +35,13 @@ Fresh tick delta w = tick < w.tick + delta
 -- One is handed out and waits no longer; or none, and then all are fresh and nothing changes.
 abbrev pub Handed : ℕ → ℕ → Option Waiting → List Waiting → List Waiting → Type 0
 Handed tick delta (Some w) before after = Taken w before after
-Handed tick delta None before after = (after ≡ before) × AllByRecursion (Fresh tick delta) before
+Handed tick delta None before after = (after ≡ before) × All (Fresh tick delta) before
 
 -- The transactions of the first list are handed out one after another, in that order, and lead from the second list to the third.
 pub data Drained : List Waiting → List Waiting → List Waiting → Type 0 where
   none : {ws : List Waiting} → Drained [] ws ws
-  more : {w : Waiting} {taken before between after : List Waiting} → Taken w before between → Drained taken between after → Drained (w ∷ taken) before after
+  more : {w : Waiting} {taken before between after : List Waiting} → Taken w before between → Drained taken between after
+      → Drained (w ∷ taken) before after
 
 -- v was filed before w: at an earlier tick, or at the same tick with a lower number
 abbrev pub older : Waiting → Waiting → Bool
@@ -49,8 +49,8 @@ older v w = nat_lt v.tick w.tick || (v.tick == w.tick && nat_lt v.number w.numbe
 
 -- none of the list is older than w
 abbrev pub Oldest : Waiting → List Waiting → Type 0
-Oldest w ws = AllByRecursion (λ v. IsFalse (older v w)) ws
+Oldest w ws = All (λ v. IsFalse (older v w)) ws
 
--- the oldest stands at place i
-abbrev pub OldestAt : ℕ → List Waiting → Type 0
-OldestAt i ws = (i < length ws) × ((d : Waiting) → Oldest (slice_index_or ws i d) ws)
+-- One that is ready is handed out, and none is older; or none, and then none is ready.
+abbrev pub OldestReady : (Waiting → Type 0) → Option Waiting → List Waiting → Type 0
+OldestReady Ready handed ws = MatchOption handed (All (λ w. ¬ Ready w) ws) (λ w. Ready w × Oldest w ws)

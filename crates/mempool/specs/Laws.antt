@@ -26,4 +26,5 @@ DrainedApart = (taken before after : List Waiting) → Drained taken before afte
 -- where no number waits twice, there is one oldest, and so one outcome of handing it out
 abbrev pub OneOldest : Type 0
 OneOldest =
-    (v w : Waiting) (before after after' : List Waiting) → Apart before → Taken v before after → Taken w before after' → Oldest v before → Oldest w before → (v ≡ w) × (after ≡ after')
+    (v w : Waiting) (before after after' : List Waiting) → Apart before → Taken v before after → Taken w before after'
+    → Oldest v before → Oldest w before → (v ≡ w) × (after ≡ after')

@@ -1,4 +1,3 @@
 pub mod Calls
 pub mod Deliveries
 pub mod Laws
-pub mod Storage

@@ -2,9 +2,10 @@
 #![tactic(auto)]
 
 pub mod delivery;
+pub mod oldest_first;
+pub mod pace;
 pub mod pool;
 pub mod prompt;
-mod queue;
 pub mod refusal;
 pub mod slow;
 #[cfg(test)]

@@ -1,45 +1,32 @@
 // The prompt mempool: hands out everything, oldest first.
-ghost use Rattle.std.specs.Prelude.{◌≡◌, [], IfOk, MatchOption};
-ghost use Rattle.mempool.specs.Calls.{Handed, Oldest};
-ghost use Rattle.mempool.specs.Storage.{queued};
+ghost use Rattle.std.specs.Prelude.{◌≡◌, ℕ, List, [], Option, MatchOption, ⊤};
+ghost use Rattle.swap.specs.declared.records.Waiting.{Waiting};
+ghost use Rattle.mempool.specs.Calls.{Oldest, OldestReady};
 
+use crate::oldest_first::OldestFirst;
+use crate::pace::Pace;
 use crate::pool::Mempool;
-use crate::queue::Queue;
-use crate::refusal::Refusal;
-use std::alloc::{AllocError, Global};
 use swap::records::Waiting;
 
+pub type Prompt = OldestFirst<AtOnce>;
+
 #[derive(Drop)]
-pub struct Prompt {
-    queue: Queue,
-}
+pub struct AtOnce;
 
-impl Prompt {
-    pub fn new(heap: Global) -> Result<Prompt, AllocError>
-        ensures { IfOk result (λ p. queued p.queue ≡ []) }
-    {
-        Ok(Prompt {
-            queue: Queue::new(heap)?,
-        })
+impl Pace for AtOnce {
+    ghost Ready = { λ _ _ _. ⊤ };
+
+    ghost due_is_ready = { λ _ _ _ _. tt };
+
+    ghost earlier_is_ready = { λ _ _ _ _ _ _. tt };
+
+    fn is_ready(_w: Waiting, _tick: u32, _delta: u32) -> bool {
+        true
     }
 }
 
-impl Mempool for Prompt {
-    ghost waiting = { λ p. queued p.queue };
-
-    fn clear(&mut self) {
-        self.queue.clear();
-    }
-
-    fn submit(&mut self, w: Waiting) -> Result<(), Refusal> {
-        self.queue.submit(w)
-    }
-
-    fn take(&mut self, tick: u32, delta: u32) -> Option<Waiting>
-        ensures handed { Handed tick delta result (queued self.old.queue) (queued self.new.queue) }
-        ensures oldest { MatchOption result (queued self.old.queue ≡ []) (λ w. Oldest w (queued self.old.queue)) }
-    {
-        let at = self.queue.oldest()?;
-        Some(self.queue.remove(at))
-    }
-}
+// What is ready at once is handed out at once: the oldest of what waits, and nothing only where nothing waits.
+pub fn prompt_hands_out_all()
+    ensures { (handed : Option Waiting) (old : List Waiting)
+        → OldestReady (λ _. ⊤) handed old → MatchOption handed (old ≡ []) (λ w. Oldest w old) }
+{}

@@ -6,7 +6,7 @@ use Rattle.plan.proofs.Holdings.{legs_covered, holdings_fit}
 use Rattle.plan.proofs.Unique.{checked_one}
 use Rattle.plan.specs.Check.{Accepted, Checked}
 use Rattle.plan.specs.Meaning.{swap_in, OneMeaning, MeansSound}
-use Rattle.std.proofs.ByRecursion.{All-get_or}
+use Rattle.std.proofs.lemmas.List.Elements.{All-get_or}
 use Rattle.std.proofs.lemmas.Bool.{both_ways, eq-eqb, and_from}
 use Rattle.swap.specs.Assets.{holds_coins}
 use Rattle.swap.specs.Swaps.{Sound}

@@ -2,12 +2,12 @@ ghost use Rattle.std.specs.Prelude.{◌≡◌, ◌≤◌};
 ghost use Rattle.plan.specs.Check.{Checked};
 ghost use Rattle.plan.specs.Meaning.{OneMeaning, MeansSound};
 ghost use Rattle.plan.specs.Plans.{Reads, planned};
+ghost use Rattle.swap.specs.Ticks.{last_tick};
 ghost use Rattle.graph.specs.Graphs.{Inside};
 ghost use Rattle.swap.specs.Limits.{max_parties};
-ghost use Rattle.swap.specs.Ticks.{last_tick};
 
 use coverage::uncovered;
-use graph::{cut_off, span, unled};
+use graph::Graph;
 use std::alloc::Global;
 use swap::faults::{Fault, Reason};
 use swap::records::{Holding, Leg, Terms};
@@ -15,39 +15,33 @@ use swapfile::file::SwapFile;
 use swapfile::refusal::Refusal;
 
 // A swap as planned: covered, connected, with a leader on every cycle. Only `read` makes one.
+// Contracts see it through `planned`: a swap is made of functions of numbers, which the value of a `Model` cannot hold.
 #[derive(Drop)]
 pub struct Plan {
-    number: u32,
-    terms: Terms,
-    holdings: Vec<Holding>,
-    legs: Vec<Leg>,
+    file: SwapFile,
     span: u8,
 }
 
 // The span of the plan that a file holds, or the first rule of plans that it breaks.
-fn check(terms: Terms, holdings: &[Holding], legs: &[Leg]) -> Result<u8, Fault>
-    requires { (1 ≤ terms.parties) × (terms.parties ≤ max_parties) × Inside terms.parties legs.now }
-    ensures { Checked terms holdings.now legs.now result }
+fn check(file: &SwapFile) -> Result<u8, Fault>
+    requires { (1 ≤ file.now.terms.parties) × (file.now.terms.parties ≤ max_parties) × Inside file.now.terms.parties file.now.legs.items }
+    ensures { Checked file.now.terms file.now.holdings.items file.now.legs.items result }
 {
-    if let Some(leg) = uncovered(holdings, legs) {
-        return Err(Fault {
-            reason: Reason::NotCovered,
-            place: leg,
-        });
+    let terms = file.terms;
+    let graph = Graph {
+        parties: terms.parties,
+        legs: &file.legs,
+    };
+    if let Some(leg) = uncovered(&file.holdings, graph.legs) {
+        return Err(Reason::NotCovered.at(leg));
     }
-    if let Some(party) = cut_off(terms.parties, legs) {
-        return Err(Fault {
-            reason: Reason::NotConnected,
-            place: party as usize,
-        });
+    if let Some(party) = graph.cut_off() {
+        return Err(Reason::NotConnected.at(usize::from(party)));
     }
-    if let Some(party) = unled(terms.parties, terms.leaders, legs) {
-        return Err(Fault {
-            reason: Reason::NoLeader,
-            place: party as usize,
-        });
+    if let Some(party) = graph.unled(terms.leaders) {
+        return Err(Reason::NoLeader.at(usize::from(party)));
     }
-    Ok(span(terms.parties, legs))
+    Ok(graph.span())
 }
 
 impl Plan {
@@ -56,46 +50,34 @@ impl Plan {
         ensures { Reads bytes.now result }
     {
         let file = swapfile::file::read(heap, bytes)?;
-        let span = check(file.terms, &file.holdings, &file.legs)?;
-        let SwapFile {
-            number,
-            terms,
-            holdings,
-            legs,
-        } = file;
-        Ok(Plan {
-            number,
-            terms,
-            holdings,
-            legs,
-            span,
-        })
+        let span = check(&file)?;
+        Ok(Plan { file, span })
     }
 
     pub fn number(&self) -> u32
         ensures { result ≡ (planned self.now).number }
     {
-        self.number
+        self.file.number
     }
 
     pub fn terms(&self) -> Terms
-        ensures { result ≡ self.now.terms }
+        ensures { result ≡ self.now.file.terms }
     {
-        self.terms
+        self.file.terms
     }
 
     // Who holds what before the swap.
     pub fn holdings(&self) -> &[Holding]
-        ensures { result.now ≡ self.now.holdings.items }
+        ensures { result.now ≡ self.now.file.holdings.items }
     {
-        &self.holdings
+        &self.file.holdings
     }
 
     // The legs, in the order of their numbers.
     pub fn legs(&self) -> &[Leg]
-        ensures { result.now ≡ self.now.legs.items }
+        ensures { result.now ≡ self.now.file.legs.items }
     {
-        &self.legs
+        &self.file.legs
     }
 
     // The most parties on a joined route.
@@ -108,8 +90,9 @@ impl Plan {
     pub fn last_tick(&self) -> u32
         ensures { result ≡ last_tick (planned self.now) }
     {
-        let Plan { span, terms, .. } = self;
-        (2 * *span as u32 + 1) * terms.delta as u32
+        let span = u32::from(self.span);
+        let delta = u32::from(self.file.terms.delta);
+        (2 * span + 1) * delta
     }
 }
 

@@ -1,5 +1,5 @@
 -- Calls lead to the runs of the examples.
-use Rattle.std.proofs.Common.{◌≡◌, ℕ, zero, suc, ◌+◌, ◌<◌, ◌≤◌, Bool, true, false, cond, not, ◌&&◌, eqb, ltb, leb, List, [], ◌∷◌, ◌++◌, length, Some, None, Ok, Err, Option, Result, sym, refl, ap, ◌∙◌, subst, ⊎_elim, arith}
+use Rattle.std.proofs.Common.{◌≡◌, ℕ, zero, suc, ◌+◌, ◌-◌, ◌<◌, ◌≤◌, Bool, true, false, cond, not, ◌&&◌, eqb, ltb, leb, List, [], ◌∷◌, ◌++◌, length, Some, None, Ok, Err, Option, Result, sym, refl, ap, ◌∙◌, subst, ⊎_elim, arith}
 use Rattle.protocol.proofs.Alter.{numbered}
 use Rattle.protocol.proofs.Basics.{put_case, below, one_if}
 use Rattle.protocol.proofs.Filing.{inv_tick}
@@ -20,9 +20,9 @@ use Rattle.protocol.specs.State.{Transaction, leg_of, Run, State, idle, running,
 use Rattle.protocol.specs.Stocks.{cleared}
 use Rattle.protocol.specs.Tables.{each}
 use Rattle.protocol.specs.Verdicts.{pending, tests, judged, deliver, handle}
-use Rattle.std.proofs.ByRecursion.{All-weaker}
+use Rattle.std.proofs.lemmas.List.Elements.{All-weaker}
 use Rattle.std.proofs.lemmas.Bool.{cases_eq, and_parts, and_from, cond-false, eqb-true, eq-eqb, ltb-true, ltb-false, lt-ltb, lt-leb, leb-false, leb-true, not-true, both_ways}
-use Rattle.std.specs.List.{AllByRecursion}
+use Rattle.std.specs.List.{All}
 use Rattle.swap.specs.Limits.{outsider_lines, max_lines}
 use Rattle.swap.specs.Swaps.{Swap, Sound}
 use Rattle.swap.specs.declared.faults.Fault.{Fault}
@@ -45,7 +45,8 @@ times_taken n (w ∷ ws) h = go (times_taken n ws) (eqb n w.number) refl
 submit_any : (w : Waiting) (ws : List Waiting) → (vs : List Waiting) × (answer : Result (Unit {0}) Refusal) × Submitted w answer ws vs
 submit_any w ws = go (ltb (length ws) max_lines) (waits w.number ws) refl refl
   where
-    go : (b c : Bool) → ltb (length ws) max_lines ≡ b → waits w.number ws ≡ c → (vs : List Waiting) × (answer : Result (Unit {0}) Refusal) × Submitted w answer ws vs
+    go : (b c : Bool) → ltb (length ws) max_lines ≡ b → waits w.number ws ≡ c
+        → (vs : List Waiting) × (answer : Result (Unit {0}) Refusal) × Submitted w answer ws vs
     go true false e f = (w ∷ ws, Ok tt, (ltb-true _ _ e, f, here))
     go true true e f = (ws, Err Duplicate, (ltb-true _ _ e, f, refl))
     go false c e f = (ws, Err Full, (ltb-false _ _ e, refl))
@@ -58,7 +59,7 @@ added_any r n (suc k) ws =
     (u.0, subst (λ m. Added r n m ws u.0) (omega arith) (added t.1 u.1 u.2))
 
 added_to : (r : Run) (n m : ℕ) (ws : List Waiting) → n ≤ m → (vs : List Waiting) × Added r n m ws vs
-added_to r n m ws h = let t = added_any r n (Prim.Native.Nat.◌-◌ m n) ws in (t.0, subst (λ k. Added r n k ws t.0) (omega arith) t.1)
+added_to r n m ws h = let t = added_any r n (m - n) ws in (t.0, subst (λ k. Added r n k ws t.0) (omega arith) t.1)
 
 handled_push : (p : Swap) (ws : List Waiting) (w : Waiting) (r : Run) → handled p (ws ++ w ∷ []) r ≡ handle p w.number (handled p ws r)
 handled_push p [] w r = refl
@@ -76,7 +77,8 @@ module _ (p : Swap) (r : Run) (ws : List Waiting) (q : Quiet p r ws) where
   old : (n : ℕ) → n < r.count → (r.line n).filed < suc r.tick
   old n h = let b = (quiet_inv p r ws q).lines.before n h in omega arith
 
-  skipped : (k : ℕ) (s : Run) → Looked p r ws k s → (k < s.count → s.verdict k ≡ pending → s.tick < (s.line k).filed + p.delta) → Looked p r ws (suc k) s
+  skipped : (k : ℕ) (s : Run) → Looked p r ws k s → (k < s.count → s.verdict k ≡ pending → s.tick < (s.line k).filed + p.delta)
+      → Looked p r ws (suc k) s
   skipped k s l h = record {
     handed = l.handed;
     left = l.left;
@@ -90,10 +92,12 @@ module _ (p : Swap) (r : Run) (ws : List Waiting) (q : Quiet p r ws) where
 
   judged_small : (s : Run) (k : ℕ) → judged p s (s.line k) < 255
   unfolding judged
-  judged_small s k = below (tests p s.tick s.signed s.stock (s.line k).filer (s.line k).transaction (s.escrow (leg_of (s.line k).transaction)))
+  judged_small s k =
+      below (tests p s.tick s.signed s.stock (s.line k).filer (s.line k).transaction (s.escrow (leg_of (s.line k).transaction)))
       (numbered p s.tick s.signed s.stock (s.line k).filer (s.line k).transaction (s.escrow (leg_of (s.line k).transaction)))
 
-  judged_due : (k : ℕ) (s : Run) → Looked p r ws k s → (n : ℕ) → n < suc k → n < s.count → (deliver p k s).verdict n ≡ pending → s.tick < (s.line n).filed + p.delta
+  judged_due : (k : ℕ) (s : Run) → Looked p r ws k s → (n : ℕ) → n < suc k → n < s.count → (deliver p k s).verdict n ≡ pending
+      → s.tick < (s.line n).filed + p.delta
   unfolding deliver
   judged_due k s l n a b = put_case (λ z. z ≡ pending → s.tick < (s.line n).filed + p.delta) s.verdict k (judged p s (s.line k)) n
       (λ _ z. let y = judged_small s k in absurd (omega arith)) (λ d. l.due n (omega arith) b)
@@ -109,7 +113,8 @@ module _ (p : Swap) (r : Run) (ws : List Waiting) (q : Quiet p r ws) where
         handed = l.handed ++ t.0 ∷ [];
         left = t.1;
         drained = drained_push l.drained t.2 refl;
-        run = sym (handle_deliver p k s h e) ∙ ap (λ m. handle p m s) (sym t.3) ∙ ap (handle p t.0.number) l.run ∙ sym (handled_push p l.handed t.0 (ticked r));
+        run = sym (handle_deliver p k s h e) ∙ ap (λ m. handle p m s) (sym t.3) ∙ ap (handle p t.0.number) l.run
+            ∙ sym (handled_push p l.handed t.0 (ticked r));
         due = judged_due k s l;
       }
 
@@ -129,7 +134,8 @@ module _ (p : Swap) (r : Run) (ws : List Waiting) (q : Quiet p r ws) where
       go true e = handle_next k s l
       go false e = skipped k s l (λ _ _. leb-false _ _ e)
 
-tick_answers : (p : Swap) (r s : Run) (ws vs : List Waiting) → r.tick < last_tick p → Ticked p r ws s vs → Answered (running p r ws) tick' (Ok (suc r.tick)) (running p s vs)
+tick_answers : (p : Swap) (r s : Run) (ws vs : List Waiting) → r.tick < last_tick p → Ticked p r ws s vs
+    → Answered (running p r ws) tick' (Ok (suc r.tick)) (running p s vs)
 tick_answers p r s ws vs soon t =
     subst (λ o. Settled o (running p r ws) tick' (Ok (suc r.tick)) (running p s vs)) (sym open') (s, vs, t, refl, refl)
   where
@@ -144,24 +150,35 @@ ticked_by delivery p r ws q =
     let i = quiet_inv p r ws q in
     let s = each r.count (hands delivery p) (ticked r) in
     let l : Looked p r ws r.count s = each_ind (Looked p r ws) (hands delivery p) (ticked r) r.count
-    (record { handed = []; left = ws; drained = none; run = refl; due = λ n a. absurd (omega arith) }) (λ k s _ x. hands_next p r ws q delivery k s x) in
+    (record { handed = []; left = ws; drained = none; run = refl; due = λ n a. absurd (omega arith) })
+    (λ k s _ x. hands_next p r ws q delivery k s x) in
     let d = heard p r ws q s l in
-    let soon : AllByRecursion (Fresh (suc r.tick) p.delta) l.left = All-weaker (λ w. Known s.count s.line w × (s.verdict w.number ≡ pending)) _
+    let soon : All (Fresh (suc r.tick) p.delta) l.left =
+    All-weaker (λ w. Known s.count s.line w × (s.verdict w.number ≡ pending)) (Fresh (suc r.tick) p.delta)
     (λ w k. let c = d.count in let t = d.tick in let f = k.0.2 in let b = k.0.0 in
     let z = l.due w.number (omega arith) b k.1 in omega arith)
     l.left (queue_known d.queue) in
     let inv = inv_steps p q.sound (ticked r) s (inv_tick p r i q.rested) d.steps in
     let w = turned p q.sound s inv (heard_all p r s ws l.left i q.rested d soon) in
-    let a = added_to (turns p s) r.count (turns p s).count l.left (subst (λ n. n ≤ (turns p s).count) d.count w.longer.count) in
-    (a.0, record { handed = l.handed; left = l.left; drained = l.drained; fresh = soon; filed = ap (turns p) l.run; waits = a.1 }, w.tick ∙ d.tick)
+    let a = added_to (turns p s) r.count (turns p s).count l.left (subst (λ n. n ≤ (turns p s).count) d.count w.longer.count) in (
+      a.0,
+      record { handed = l.handed; left = l.left; drained = l.drained; fresh = soon; filed = ap (turns p) l.run; waits = a.1 },
+      w.tick
+          ∙ d.tick,
+    )
 
 tick_by_reached : (delivery : Delivery) (p : Swap) (r : Run) (ws : List Waiting) → Reached (running p r ws) → r.tick < last_tick p
     → (vs : List Waiting) × Reached (running p (tick_by delivery p r) vs) × ((tick_by delivery p r).tick ≡ suc r.tick)
 tick_by_reached delivery p r ws h soon =
-    let t = ticked_by delivery p r ws (reached_lasts h) in
-    (t.0, after {s' = running p (tick_by delivery p r) t.0} tick' (Ok (suc r.tick)) h (tick_answers p r (tick_by delivery p r) ws t.0 soon t.1), t.2)
+    let t = ticked_by delivery p r ws (reached_lasts h) in (
+      t.0,
+      after {s' = running p (tick_by delivery p r) t.0} tick' (Ok (suc r.tick)) h
+          (tick_answers p r (tick_by delivery p r) ws t.0 soon t.1),
+      t.2,
+    )
 
-ticks_by_reached : (n : ℕ) (delivery : Delivery) (p : Swap) (r : Run) (ws : List Waiting) → Reached (running p r ws) → r.tick + n ≤ last_tick p
+ticks_by_reached : (n : ℕ) (delivery : Delivery) (p : Swap) (r : Run) (ws : List Waiting) → Reached (running p r ws)
+    → r.tick + n ≤ last_tick p
     → (vs : List Waiting) × Reached (running p (ticks_by n delivery p r) vs) × ((ticks_by n delivery p r).tick ≡ r.tick + n)
 unfolding ticks_by
 ticks_by_reached zero delivery p r ws h b = (ws, h, omega arith)
@@ -182,7 +199,8 @@ enter_more v x r = go (ltb r.count max_lines)
     go false = omega arith
 
 file_by : (p : Swap) (r : Run) (ws : List Waiting) (v : ℕ) (x : Transaction) → Reached (running p r ws)
-    → over p r ≡ false → p.outsider v ≡ true → leb outsider_lines (outsiders p r) ≡ false → proper p x ≡ true → (vs : List Waiting) × Reached (running p (enter v x r) vs)
+    → over p r ≡ false → p.outsider v ≡ true → leb outsider_lines (outsiders p r) ≡ false → proper p x ≡ true → (vs : List Waiting)
+    × Reached (running p (enter v x r) vs)
 file_by p r ws v x h a b c d =
     let t = added_to (enter v x r) r.count (enter v x r).count ws (enter_more v x r) in (
       t.0,
@@ -201,7 +219,8 @@ fine delivery p (f ∷ fs) r =
     ltb (r.tick + f.0) (last_tick p) && p.outsider f.1 && not (leb outsider_lines (outsiders p (ticks_by f.0 delivery p r))) && proper p f.2
     && fine delivery p fs (enter f.1 f.2 (ticks_by f.0 delivery p r))
 
-filings_by : (delivery : Delivery) (p : Swap) (fs : List (ℕ × ℕ × Transaction)) (r : Run) (ws : List Waiting) → Reached (running p r ws) → fine delivery p fs r ≡ true
+filings_by : (delivery : Delivery) (p : Swap) (fs : List (ℕ × ℕ × Transaction)) (r : Run) (ws : List Waiting) → Reached (running p r ws)
+    → fine delivery p fs r ≡ true
     → (vs : List Waiting) × Reached (running p (filings delivery p fs r) vs)
 unfolding filings
 filings_by delivery p [] r ws h e = (ws, h)
@@ -222,7 +241,8 @@ taken_up p s =
     (a.0, after (load (Ok p)) (Ok 0) (new cleared []) (turns p (fresh p), a.0, record { sound = s; filed = refl; waits = a.1 }, refl, refl))
 
 -- the run of an example: filings, then ticks
-pub attained : (delivery : Delivery) (p : Swap) → Sound p → (fs : List (ℕ × ℕ × Transaction)) (n : ℕ) → fine delivery p fs (turns p (fresh p)) ≡ true
+pub attained : (delivery : Delivery) (p : Swap) → Sound p → (fs : List (ℕ × ℕ × Transaction)) (n : ℕ)
+    → fine delivery p fs (turns p (fresh p)) ≡ true
     → leb ((filings delivery p fs (turns p (fresh p))).tick + n) (last_tick p) ≡ true
     → (ws : List Waiting) × Reached (running p (ticks_by n delivery p (filings delivery p fs (turns p (fresh p)))) ws)
 attained delivery p s fs n e f =
@@ -232,7 +252,8 @@ attained delivery p s fs n e f =
     (c.0, c.1)
 
 -- no call is left without an answer
-answered_by : (s : State) (c : Call) → (refusal s c ≡ None → (a : Answer) × (s' : State) × Effect s c a s') → (a : Answer) × (s' : State) × Answered s c a s'
+answered_by : (s : State) (c : Call) → (refusal s c ≡ None → (a : Answer) × (s' : State) × Effect s c a s')
+    → (a : Answer) × (s' : State) × Answered s c a s'
 answered_by s c f = go (refusal s c) refl
   where
     go : (o : Option Fault) → refusal s c ≡ o → (a : Answer) × (s' : State) × Settled o s c a s'
@@ -240,7 +261,7 @@ answered_by s c f = go (refusal s c) refl
     go None e = f e
 
 clash_none : {A : Type 0} (fault : Fault) → ◌≡◌ {A = Option Fault} (Some fault) None → A
-clash_none fault e = let z : ◌≡◌ {A = ℕ} 0 1 = cc in absurd (omega arith)
+clash_none fault e = grind arith
 
 effect_to : (s : State) → Reached s → (c : Call) → Legible c → refusal s c ≡ None → (a : Answer) × (s' : State) × Effect s c a s'
 effect_to (idle stock ws) h (load (Ok p)) l e =

@@ -49,11 +49,7 @@ Numbered (x ∷ xs) = (0 < x.1) × (x.1 < 255) × Numbered xs
 pub took : (xs : List (Bool × ℕ)) → Numbered xs → first_failed xs ≡ 0 → Fails xs
 unfolding first_failed
 took [] h e = tt
-took (x ∷ xs) h e = go (took xs h.2) x.0 refl e
-  where
-    go : (first_failed xs ≡ 0 → Fails xs) → (b : Bool) → x.0 ≡ b → cond b x.1 (first_failed xs) ≡ 0 → (x.0 ≡ false) × Fails xs
-    go rest true d z = absurd (omega arith)
-    go rest false d z = (d, rest z)
+took (x ∷ xs) h e = grind (arith, took xs h.2)
 
 pub passes : (xs : List (Bool × ℕ)) → Fails xs → first_failed xs ≡ 0
 unfolding first_failed
@@ -63,8 +59,4 @@ passes (x ∷ xs) h = rw h.0 (passes xs h.1)
 pub below : (xs : List (Bool × ℕ)) → Numbered xs → first_failed xs < 255
 unfolding first_failed
 below [] h = omega arith
-below (x ∷ xs) h = go (below xs h.2) x.0
-  where
-    go : first_failed xs < 255 → (b : Bool) → cond b x.1 (first_failed xs) < 255
-    go rest true = h.1
-    go rest false = rest
+below (x ∷ xs) h = grind (arith, below xs h.2)

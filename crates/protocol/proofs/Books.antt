@@ -1,4 +1,5 @@
--- The books balance: what a party has and has put up or paid is what it held and was paid, and an escrow account holds its asset while the leg is open.
+-- The books balance: what a party has and has put up or paid is what it held and was paid, and an escrow account holds its asset
+-- while the leg is open.
 use Rattle.std.proofs.Common.{◌≡◌, ℕ, zero, suc, ◌+◌, ◌-◌, ◌<◌, ◌≤◌, Bool, true, false, cond, not, ◌&&◌, ◌||◌, eqb, leb, List, is_err, Some, Ok, Err, Option, sym, refl, ap, ◌∙◌, arith}
 use Rattle.ledgers.proofs.LawsHold.{worth_le, accepted_deposit, deposit_ok}
 use Rattle.ledgers.specs.Calls.{Answer, deposit_verdict}
@@ -93,7 +94,8 @@ and_none : (b : Bool) (w : ℕ) → cond (b && false) w 0 ≡ 0
 and_none true w = refl
 and_none false w = refl
 
-credit_party : (L P a : ℕ) (s : Stock) (v l u : ℕ) → credit L P a s l (Party v) u ≡ s l (Party v) u + cond (eqb P v && eqb L l) (worth (rules_of l) a u) 0
+credit_party : (L P a : ℕ) (s : Stock) (v l u : ℕ)
+    → credit L P a s l (Party v) u ≡ s l (Party v) u + cond (eqb P v && eqb L l) (worth (rules_of l) a u) 0
 credit_party L P a s v l u =
     one_place (λ c d. c ≡ s l (Party v) u + d) l L v P (s l (Party P) u + worth (rules_of L) a u) (s l (Party v) u) (worth (rules_of l) a u)
     (λ e f. rw (e, f) refl) (omega arith)
@@ -107,10 +109,12 @@ deposit_party L P i a s v l u h =
     one_place (λ c d. c + d ≡ s l (Party v) u) l L v P (s l (Party P) u - worth (rules_of L) a u) (s l (Party v) u) (worth (rules_of l) a u)
     (λ e f. rw (e, f) (omega arith)) (omega arith)
 
-deposit_account : (L P i a : ℕ) (s : Stock) (l u : ℕ) → s l (Account i) u ≡ 0 → deposit L P i a s l (Account i) u ≡ cond (eqb L l && true) (worth (rules_of l) a u) 0
+deposit_account : (L P i a : ℕ) (s : Stock) (l u : ℕ) → s l (Account i) u ≡ 0
+    → deposit L P i a s l (Account i) u ≡ cond (eqb L l && true) (worth (rules_of l) a u) 0
 deposit_account L P i a s l u h = rw (eq-eqb i i refl, eqb_comm l L) (go (eqb L l) refl)
   where
-    go : (b : Bool) → eqb L l ≡ b → cond b (s l (Account i) u + worth (rules_of L) a u) (s l (Account i) u) ≡ cond (b && true) (worth (rules_of l) a u) 0
+    go : (b : Bool) → eqb L l ≡ b → cond b (s l (Account i) u + worth (rules_of L) a u) (s l (Account i) u) ≡ cond (b && true)
+        (worth (rules_of l) a u) 0
     go true e = rw (h, eqb-true L l e) (omega arith)
     go false e = h
 
@@ -156,8 +160,10 @@ pub books_fresh : (p : Swap) → Sound p → Books p (fresh p).escrow (fresh p).
 books_fresh p sound = record {
   parties = λ v l u.
       let s = start_stock p sound v l u in
-      let a = sum_zero p.legs (gone p (fresh p).escrow v l u) (λ i h. and_none (eqb (p.payer i) v && eqb (p.ledger i) l) (worth (rules_of l) 0 u)) in
-      let b = sum_zero p.legs (come p (fresh p).escrow v l u) (λ i h. and_none (eqb (p.receiver i) v && eqb (p.ledger i) l) (worth (rules_of l) 0 u)) in
+      let a = sum_zero p.legs (gone p (fresh p).escrow v l u)
+      (λ i h. and_none (eqb (p.payer i) v && eqb (p.ledger i) l) (worth (rules_of l) 0 u)) in
+      let b = sum_zero p.legs (come p (fresh p).escrow v l u)
+      (λ i h. and_none (eqb (p.receiver i) v && eqb (p.ledger i) l) (worth (rules_of l) 0 u)) in
       omega arith;
   accounts = λ i l u h. entered_account p i l u p.holdings ∙ sym (and_none (eqb (p.ledger i) l) (worth (rules_of l) 0 u));
 }
@@ -178,7 +184,8 @@ stands_asset p k e h =
     eqb-true e.asset (p.asset k)
     (and_parts (not (is_vacant e.phase)) (eqb e.asset (p.asset k)) (and_parts (not (is_vacant e.phase) && eqb e.asset (p.asset k)) _ h).0).1
 
-pub enough : (p : Swap) → Sound p → (escrow : ℕ → Escrow) (stock : Stock) → Books p escrow stock → (i : ℕ) → i < p.legs → (escrow i).phase ≡ Vacant
+pub enough : (p : Swap) → Sound p → (escrow : ℕ → Escrow) (stock : Stock) → Books p escrow stock → (i : ℕ) → i < p.legs
+    → (escrow i).phase ≡ Vacant
     → ((k : ℕ) → k < p.legs → p.payer k ≡ p.payer i → is_vacant (escrow k).phase ≡ false → stands p k (escrow k) ≡ true)
     → refuses (p.ledger i) (p.payer i) i (p.asset i) stock ≡ false
 unfolding refuses
@@ -187,12 +194,15 @@ enough p sound escrow stock b i h vacant planned =
     let v : ℕ = p.payer i in
     let a : ℕ = p.asset i in
     let u : ℕ = (rules_of l).unit a in
-    let here : gone p escrow v l u i + (rules_of l).amount a ≤ cond (eqb (p.payer i) v && eqb (p.ledger i) l) (worth (rules_of l) (p.asset i) u) 0
+    let here : gone p escrow v l u i + (rules_of l).amount a ≤ cond (eqb (p.payer i) v && eqb (p.ledger i) l)
+    (worth (rules_of l) (p.asset i) u) 0
     = rw (vacant, eq-eqb v v refl, eq-eqb l l refl, worth_unit (rules_of l) a) (omega arith)
     in
     let less =
-    sum_less p.legs (gone p escrow v l u) (λ k. cond (eqb (p.payer k) v && eqb (p.ledger k) l) (worth (rules_of l) (p.asset k) u) 0) i ((rules_of l).amount a) h
-    (λ k hk. owed_term (eqb (p.payer k) v) (eqb (p.ledger k) l) (escrow k).phase (worth (rules_of l) (escrow k).asset u) (worth (rules_of l) (p.asset k) u)
+    sum_less p.legs (gone p escrow v l u) (λ k. cond (eqb (p.payer k) v && eqb (p.ledger k) l) (worth (rules_of l) (p.asset k) u) 0) i
+    ((rules_of l).amount a) h
+    (λ k hk. owed_term (eqb (p.payer k) v) (eqb (p.ledger k) l) (escrow k).phase (worth (rules_of l) (escrow k).asset u)
+    (worth (rules_of l) (p.asset k) u)
     (λ e n. ap (λ a. worth (rules_of l) a u) (stands_asset p k (escrow k) (planned k hk (eqb-true (p.payer k) v e) n))))
     here
     in
@@ -291,11 +301,14 @@ module _ (p : Swap) (escrow : ℕ → Escrow) (stock : Stock) (i : ℕ) (h : i <
   opened_books asset e held has vacant taken =
       let L : ℕ = p.ledger i in
       let P : ℕ = p.payer i in
-      let le = (accepted_deposit (rules_of L) P i asset (stock L) (sym (not_err (deposit_verdict (rules_of L) P i asset (stock L)) taken))).enough in
+      let le = (accepted_deposit (rules_of L) P i asset (stock L)
+      (sym (not_err (deposit_verdict (rules_of L) P i asset (stock L)) taken))).enough in
       books_put p escrow stock (deposit L P i asset stock) i e h b
       (λ v l u. rw (vacant, held, has)
-      (opened_terms (eqb P v) (eqb L l) (eqb (p.receiver i) v) (worth (rules_of l) asset u) (worth (rules_of l) (escrow i).asset u) (stock l (Party v) u)
-      (deposit L P i asset stock l (Party v) u) (deposit_party L P i asset stock v l u (worth_le (rules_of L) asset (stock L (Party P)) le u))))
+      (opened_terms (eqb P v) (eqb L l) (eqb (p.receiver i) v) (worth (rules_of l) asset u) (worth (rules_of l) (escrow i).asset u)
+      (stock l (Party v) u)
+      (deposit L P i asset stock l (Party v) u) (deposit_party L P i asset stock v l u
+      (worth_le (rules_of L) asset (stock L (Party P)) le u))))
       (λ l u. rw (held, has) (deposit_account L P i asset stock l u (vacant_account vacant l u)))
       (λ k l u ne. deposit_other L P i asset stock k l u ne)
 
@@ -334,7 +347,14 @@ module _ (p : Swap) (escrow : ℕ → Escrow) (stock : Stock) (i : ℕ) (h : i <
 
   -- a key: the last shut lock makes the leg paid
   key_books : (last : Bool) (t : ℕ) (opened : ℕ → Option (List ℕ)) → (escrow i).phase ≡ Held
-      → Books p (put escrow i (record { phase = cond last Paid (escrow i).phase; asset = (escrow i).asset; locks = (escrow i).locks; opened = opened; changed = cond last t (escrow i).changed }))
+      → Books p (put escrow i (record {
+        phase = cond last Paid (escrow i).phase;
+        asset = (escrow i).asset;
+        locks = (escrow i).locks;
+        opened =
+            opened;
+        changed = cond last t (escrow i).changed;
+      }))
       (cond (is_paid (cond last Paid (escrow i).phase)) (release (p.ledger i) i (p.receiver i) stock) stock)
   key_books true t opened held = paid_books _ refl refl held
   key_books false t opened held = rw (ap is_paid held) (same_books _ refl refl)

@@ -18,20 +18,26 @@ use Rattle.swap.specs.Swaps.{Swap, Sound, Pays}
 
 -- an escrow that is neither none nor open stays as it is
 module _ (p : Swap) where
-  ended_fails : (t : ℕ) (σ : Signed) (stock : Stock) (v : ℕ) (x : Transaction) (e : Escrow) → is_vacant e.phase ≡ false → is_held e.phase ≡ false
+  ended_fails : (t : ℕ) (σ : Signed) (stock : Stock) (v : ℕ) (x : Transaction) (e : Escrow) → is_vacant e.phase ≡ false
+      → is_held e.phase ≡ false
       → first_failed (tests p t σ stock v x e) ≡ 0 → ⊥
-  ended_fails t σ stock v (Open i asset locks) e a b f = clash (is_vacant e.phase) (not-false _ (took (tests p t σ stock v (Open i asset locks) e) (omega arith) f).1.0) a
-  ended_fails t σ stock v (Key i q) e a b f = clash (is_held e.phase) (not-false _ (took (tests p t σ stock v (Key i q) e) (omega arith) f).1.0) b
-  ended_fails t σ stock v (Refund i) e a b f = clash (is_held e.phase) (not-false _ (took (tests p t σ stock v (Refund i) e) (omega arith) f).1.0) b
+  ended_fails t σ stock v (Open i asset locks) e a b f =
+      clash (is_vacant e.phase) (not-false _ (took (tests p t σ stock v (Open i asset locks) e) (omega arith) f).1.0) a
+  ended_fails t σ stock v (Key i q) e a b f =
+      clash (is_held e.phase) (not-false _ (took (tests p t σ stock v (Key i q) e) (omega arith) f).1.0) b
+  ended_fails t σ stock v (Refund i) e a b f =
+      clash (is_held e.phase) (not-false _ (took (tests p t σ stock v (Refund i) e) (omega arith) f).1.0) b
 
-  pub ended_stays : (r : Run) (n i : ℕ) → is_vacant (r.escrow i).phase ≡ false → is_held (r.escrow i).phase ≡ false → (deliver p n r).escrow i ≡ r.escrow i
+  pub ended_stays : (r : Run) (n i : ℕ) → is_vacant (r.escrow i).phase ≡ false → is_held (r.escrow i).phase ≡ false
+      → (deliver p n r).escrow i ≡ r.escrow i
   unfolding deliver judged
   ended_stays r n i a b = go (eqb (judged p r (r.line n)) 0) refl
     where
       go : (z : Bool) → eqb (judged p r (r.line n)) 0 ≡ z
           → (cond z (effect p r.tick (r.line n).transaction (r.escrow, r.stock)) (r.escrow, r.stock)).0 i ≡ r.escrow i
       go false e = refl
-      go true e = put_other r.escrow (leg_of (r.line n).transaction) (altered p r.tick (r.line n).transaction (r.escrow (leg_of (r.line n).transaction))) i
+      go true e = put_other r.escrow (leg_of (r.line n).transaction)
+          (altered p r.tick (r.line n).transaction (r.escrow (leg_of (r.line n).transaction))) i
           (λ d. ended_fails r.tick r.signed r.stock (r.line n).filer (r.line n).transaction (r.escrow (leg_of (r.line n).transaction))
           (subst (λ k. is_vacant (r.escrow k).phase ≡ false) d a) (subst (λ k. is_held (r.escrow k).phase ≡ false) d b) (eqb-true _ _ e))
 
@@ -45,7 +51,8 @@ pub record Aims (p : Swap) (r : Run) : Type 0 where
   pub openings : (k v : ℕ) → v < p.parties → suc k ≤ p.span → k * p.delta < r.tick
       → ((i : ℕ) → Leaving p v i → HasBy r v (Open i (p.asset i) p.leader) (k * p.delta)) ⊎ Behind p k v
   -- after tick (W + m − 1)·Δ a party from which a joined route of m parties leads to a leader has passed on a key for its lock
-  pub keys : (v i : ℕ) (q : List ℕ) → Entering p v i → Joined (Pays p) (v ∷ q) → p.leader (last v q) ≡ true → (p.span + length q) * p.delta < r.tick
+  pub keys : (v i : ℕ) (q : List ℕ) → Entering p v i → Joined (Pays p) (v ∷ q) → p.leader (last v q) ≡ true
+      → (p.span + length q) * p.delta < r.tick
       → (route : List ℕ) × (ends route ≡ last v q) × HasBy r v (Key i route) ((p.span + length q) * p.delta)
   -- after tick 2·W·Δ every leg is paid
   pub paid : refund_tick p < r.tick → (i : ℕ) → i < p.legs → paid_in_full p i (r.escrow i) ≡ true
@@ -65,10 +72,12 @@ module _ (p : Swap) (s : Sound p) (all : Conform p) (r : Run) (inv : Inv p r) (r
   heard : (v : ℕ) (x : Transaction) (b : ℕ) → b + p.delta ≤ r.tick → (h : HasBy r v x b) → r.verdict h.0 ≡ pending → ⊥
   heard v x b d h e = omega (arith, rest.fresh h.0 h.1 e)
 
-  opened_stands : (v i b : ℕ) → v < p.parties → b + p.delta ≤ r.tick → HasBy r v (Open i (p.asset i) p.leader) b → stands p i (r.escrow i) ≡ true
+  opened_stands : (v i b : ℕ) → v < p.parties → b + p.delta ≤ r.tick → HasBy r v (Open i (p.asset i) p.leader) b
+      → stands p i (r.escrow i) ≡ true
   opened_stands v i b c d h = (line_fact v c (Open i (p.asset i) p.leader) b h).took (heard v (Open i (p.asset i) p.leader) b d h)
 
-  key_opens : (v i b : ℕ) (q : List ℕ) → v < p.parties → b + p.delta ≤ r.tick → HasBy r v (Key i q) b → is_some ((r.escrow i).opened (ends q)) ≡ true
+  key_opens : (v i b : ℕ) (q : List ℕ) → v < p.parties → b + p.delta ≤ r.tick → HasBy r v (Key i q) b
+      → is_some ((r.escrow i).opened (ends q)) ≡ true
   key_opens v i b q c d h = (line_fact v c (Key i q) b h).took (heard v (Key i q) b d h)
 
   -- a line that is there was filed at this tick or before
@@ -83,7 +92,8 @@ module _ (p : Swap) (s : Sound p) (all : Conform p) (r : Run) (inv : Inv p r) (r
       let x = (s.exist t.0 t.1.0).0 in
       let d = s.delay.0 in
       ⊎_elim
-      (λ h. absurd (clash (stands p t.0 (r.escrow t.0)) (opened_stands (p.payer t.0) t.0 (k * p.delta) x (omega arith) (h t.0 (t.1.0, refl))) t.2))
+      (λ h. absurd (clash (stands p t.0 (r.escrow t.0))
+      (opened_stands (p.payer t.0) t.0 (k * p.delta) x (omega arith) (h t.0 (t.1.0, refl))) t.2))
       (λ w. after w (t.0, t.1.0, refl, t.1.1) l)
       (aims.openings k (p.payer t.0) x (omega arith) (omega arith))
 
@@ -136,7 +146,8 @@ module _ (p : Swap) (s : Sound p) (all : Conform p) (r : Run) (inv : Inv p r) (r
       (q, way_ends p (inv.facts.signs v lock q (all v c) g).0, has_by v (Key i q) b e ((rest.done v (all v c)).passed lock i q n g))
 
   -- v has signed for the leader's lock: its own, or the one that the next party's key has opened on the leg to it
-  must_sign : (v : ℕ) (q : List ℕ) → v < p.parties → Joined (Pays p) (v ∷ q) → p.leader (last v q) ≡ true → r.tick ≡ (p.span + length q) * p.delta
+  must_sign : (v : ℕ) (q : List ℕ) → v < p.parties → Joined (Pays p) (v ∷ q) → p.leader (last v q) ≡ true
+      → r.tick ≡ (p.span + length q) * p.delta
       → r.signed v (last v q) ≡ None → ⊥
   must_sign v [] c j l e g = (rest.done v (all v c)).reveals l (all_enter (omega arith) v) g
   must_sign v (w ∷ q) c j l e g =
@@ -150,7 +161,8 @@ module _ (p : Swap) (s : Sound p) (all : Conform p) (r : Run) (inv : Inv p r) (r
       (λ y. clash (mem v (w ∷ q)) (subst (λ u. mem u (w ∷ q) ≡ true) y (last_mem w q)) j.1)
       (all_enter (omega arith) v) (a.1, a.2) f.1 g
 
-  key_due : (v i : ℕ) (q : List ℕ) → Entering p v i → Joined (Pays p) (v ∷ q) → p.leader (last v q) ≡ true → r.tick ≡ (p.span + length q) * p.delta
+  key_due : (v i : ℕ) (q : List ℕ) → Entering p v i → Joined (Pays p) (v ∷ q) → p.leader (last v q) ≡ true
+      → r.tick ≡ (p.span + length q) * p.delta
       → (route : List ℕ) × (ends route ≡ last v q) × HasBy r v (Key i route) ((p.span + length q) * p.delta)
   key_due v i q n j l e = go (r.signed v (last v q)) refl
     where
@@ -164,7 +176,8 @@ module _ (p : Swap) (s : Sound p) (all : Conform p) (r : Run) (inv : Inv p r) (r
 
   -- at tick 2·W·Δ and later every lock of every leg is opened
   all_locks_opened : refund_tick p ≤ r.tick → (i : ℕ) → i < p.legs → all_opened (r.escrow i).locks (r.escrow i).opened ≡ true
-  all_locks_opened h i b = opened_of (r.escrow i).locks (r.escrow i).opened (λ k u l. lock k (sym (leader_lock p (r.escrow i).locks lead k u) ∙ l))
+  all_locks_opened h i b =
+      opened_of (r.escrow i).locks (r.escrow i).opened (λ k u l. lock k (sym (leader_lock p (r.escrow i).locks lead k u) ∙ l))
     where
       c : p.receiver i < p.parties
       c = (s.exist i b).1
@@ -179,7 +192,8 @@ module _ (p : Swap) (s : Sound p) (all : Conform p) (r : Run) (inv : Inv p r) (r
           let m = s.spanned.most (p.receiver i ∷ t.by) t.route in
           let e : (p.span + length t.by) * p.delta + p.delta ≤ r.tick = omega (arith, mul-le-mul_right p.delta m) in
           let f = aims.keys (p.receiver i) i t.by (b, refl) t.route (rw t.ends l) (omega arith) in
-          subst (λ u. is_some ((r.escrow i).opened u) ≡ true) (f.1 ∙ t.ends) (key_opens (p.receiver i) i ((p.span + length t.by) * p.delta) f.0 c e f.2)
+          subst (λ u. is_some ((r.escrow i).opened u) ≡ true) (f.1 ∙ t.ends)
+          (key_opens (p.receiver i) i ((p.span + length t.by) * p.delta) f.0 c e f.2)
 
   paid_now : r.tick ≡ refund_tick p → (i : ℕ) → i < p.legs → paid_in_full p i (r.escrow i) ≡ true
   paid_now h i b = go (r.escrow i).phase refl
@@ -189,7 +203,8 @@ module _ (p : Swap) (s : Sound p) (all : Conform p) (r : Run) (inv : Inv p r) (r
 
       go : (f : Phase) → (r.escrow i).phase ≡ f → paid_in_full p i (r.escrow i) ≡ true
       go Vacant e = absurd (clash (is_vacant (r.escrow i).phase) (rw e refl) (standing p i (r.escrow i) up).0)
-      go Held e = absurd (clash (all_opened (r.escrow i).locks (r.escrow i).opened) (all_locks_opened (omega arith) i b) (inv.facts.held i b e))
+      go Held e =
+          absurd (clash (all_opened (r.escrow i).locks (r.escrow i).opened) (all_locks_opened (omega arith) i b) (inv.facts.held i b e))
       go Paid e = and_from _ _ up (rw e refl)
       go Back e = absurd (omega (arith, inv.facts.late i b e))
 
@@ -199,7 +214,8 @@ module _ (p : Swap) (s : Sound p) (all : Conform p) (r : Run) (inv : Inv p r) (r
   pub aims_tick : Aims p (ticked r)
   aims_tick = record {
     openings = λ k v c m h. ⊎_elim (λ d. aims.openings k v c m d) (λ d. open_due k v c m (omega arith)) (cases_lt (k * p.delta) r.tick);
-    keys = λ v i q n j l h. ⊎_elim (λ d. aims.keys v i q n j l d) (λ d. key_due v i q n j l (omega arith)) (cases_lt ((p.span + length q) * p.delta) r.tick);
+    keys = λ v i q n j l h. ⊎_elim (λ d. aims.keys v i q n j l d) (λ d. key_due v i q n j l (omega arith))
+        (cases_lt ((p.span + length q) * p.delta) r.tick);
     paid = λ h i b. complete (omega arith) i b;
   }
 
@@ -214,7 +230,8 @@ aims_fresh p = record {
 aims_more : (p : Swap) (r t : Run) → r.tick ≡ t.tick → ((v : ℕ) (x : Transaction) (b : ℕ) → HasBy r v x b → HasBy t v x b)
     → ((i : ℕ) → paid_in_full p i (r.escrow i) ≡ true → paid_in_full p i (t.escrow i) ≡ true) → Aims p r → Aims p t
 aims_more p r t e add stay a = record {
-  openings = λ k v c m h. ⊎_elim (λ f. inl (λ i l. add v (Open i (p.asset i) p.leader) (k * p.delta) (f i l))) (λ w. inr w) (a.openings k v c m (omega arith));
+  openings = λ k v c m h. ⊎_elim (λ f. inl (λ i l. add v (Open i (p.asset i) p.leader) (k * p.delta) (f i l))) (λ w. inr w)
+      (a.openings k v c m (omega arith));
   keys = λ v i q n j l h. let u = a.keys v i q n j l (omega arith) in (u.0, u.1, add v (Key i u.0) ((p.span + length q) * p.delta) u.2);
   paid = λ h i b. stay i (a.paid (omega arith) i b);
 }

@@ -26,7 +26,8 @@ shape_of p r k i b = record {
 }
 
 -- Line n is delivered with verdict w, and leaves these escrows and this stock.
-module _ (p : Swap) (s : Sound p) (r : Run) (k : Inv p r) (n : ℕ) (nb : n < r.count) (w : ℕ) (told : w ≡ pending → ⊥) (escrow : ℕ → Escrow) (stock : Stock)
+module _ (p : Swap) (s : Sound p) (r : Run) (k : Inv p r) (n : ℕ) (nb : n < r.count) (w : ℕ) (told : w ≡ pending → ⊥)
+    (escrow : ℕ → Escrow) (stock : Stock)
     (alters : (i : ℕ) → i < p.legs → Alter p r n i (r.escrow i) (escrow i)) where
   steady : (i : ℕ) → i < p.legs → stands p i (r.escrow i) ≡ true → stands p i (escrow i) ≡ true
   steady i b h = (alters i b).stood h
@@ -96,7 +97,8 @@ module _ (p : Swap) (s : Sound p) (r : Run) (k : Inv p r) (n : ℕ) (nb : n < r.
     took = λ z. (alters i h.leaving.0).ended h.stays (h.took z);
   }
 
-  pub inv_recorded : (conforming p (r.line n).filer ≡ true → LineFact p escrow r.signed r.begun (r.line n).filer (r.line n).filed w (r.line n).transaction)
+  pub inv_recorded : (conforming p (r.line n).filer ≡ true
+      → LineFact p escrow r.signed r.begun (r.line n).filer (r.line n).filed w (r.line n).transaction)
       → Books p escrow stock → Inv p (recorded p r n w (escrow, stock))
   inv_recorded fact books = record {
     facts = delivered_facts;
@@ -104,9 +106,12 @@ module _ (p : Swap) (s : Sound p) (r : Run) (k : Inv p r) (n : ℕ) (nb : n < r.
       fair = k.lines.fair;
       who = k.lines.who;
       before = k.lines.before;
-      waits = λ m b. put_case (λ z. z ≡ pending → r.tick ≤ (r.line m).filed + p.delta) r.verdict n w m (λ _ z. absurd (told z)) (λ _. k.lines.waits m b);
-      facts = λ m b c. put_case (λ z. LineFact p escrow r.signed r.begun (r.line m).filer (r.line m).filed z (r.line m).transaction) r.verdict n w m
-          (λ e. subst (λ q. conforming p (r.line q).filer ≡ true → LineFact p escrow r.signed r.begun (r.line q).filer (r.line q).filed w (r.line q).transaction) (sym e) fact c)
+      waits = λ m b. put_case (λ z. z ≡ pending → r.tick ≤ (r.line m).filed + p.delta) r.verdict n w m (λ _ z. absurd (told z))
+          (λ _. k.lines.waits m b);
+      facts = λ m b c. put_case (λ z. LineFact p escrow r.signed r.begun (r.line m).filer (r.line m).filed z
+          (r.line m).transaction) r.verdict n w m
+          (λ e. subst (λ q. conforming p (r.line q).filer ≡ true
+          → LineFact p escrow r.signed r.begun (r.line q).filer (r.line q).filed w (r.line q).transaction) (sym e) fact c)
           (λ d. altered_fact m b d c (r.line m).transaction refl (k.lines.facts m b c));
       once = k.lines.once;
     };
@@ -140,7 +145,8 @@ unfolding proper_locks
 leaders_proper p s =
     let b = s.leaders s.leads.0 s.leads.1 in
     let m = s.most in
-    and_from _ _ (some_of set_bits p.leader s.leads.0 (omega arith) s.leads.1) (all_of set_bits (λ q. not (p.leader q) || p.leader q) (λ q _. excluded (p.leader q)))
+    and_from _ _ (some_of set_bits p.leader s.leads.0 (omega arith) s.leads.1)
+    (all_of set_bits (λ q. not (p.leader q) || p.leader q) (λ q _. excluded (p.leader q)))
   where
     excluded : (b : Bool) → (not b || b) ≡ true
     excluded true = refl
@@ -171,7 +177,8 @@ module _ (p : Swap) (s : Sound p) (takes : Takes p) (enough : Enough p) (r : Run
             (
               not_from_true _ (subst (λ l. proper_locks p l ≡ true) (sym h.planned.1) (leaders_proper p s)),
               (
-                subst (λ q. refuses (p.ledger i) (p.payer i) i q r.stock ≡ false) (sym a) (enough r.escrow r.stock k.books i h.leaving.0 empty
+                subst (λ q. refuses (p.ledger i) (p.payer i) i q r.stock ≡ false) (sym a)
+                    (enough r.escrow r.stock k.books i h.leaving.0 empty
                     (λ j b d f. (k.facts.planned j b (subst (λ q. conforming p q ≡ true) (sym (d ∙ e)) c) f).0)),
                 tt,
               ),
@@ -199,7 +206,8 @@ module _ (p : Swap) (s : Sound p) (takes : Takes p) (enough : Enough p) (r : Run
       small = let a = way_party p s way (subst (λ z. z < p.parties) h.entering.1 (s.exist i b).1) in let m = s.most in omega arith
 
       lock : (r.escrow i).locks (ends q) ≡ true
-      lock = leader_lock p (r.escrow i).locks (standing p i (r.escrow i) stood).2 (ends q) small ∙ k.facts.signs_led (r.line n).filer (ends q) q c h.signs
+      lock = leader_lock p (r.escrow i).locks (standing p i (r.escrow i) stood).2 (ends q) small
+          ∙ k.facts.signs_led (r.line n).filer (ends q) q c h.signs
 
       in_time : r.tick ≤ key_end p (length q)
       in_time = let t = h.intime in let u = due in omega arith
@@ -208,7 +216,8 @@ module _ (p : Swap) (s : Sound p) (takes : Takes p) (enough : Enough p) (r : Run
           → (is_some ((r.escrow i).opened (ends q)) ≡ true) ⊎ Fails (tests_of (Key i q))
       go Vacant e g = no_phase (r.escrow i).phase e (standing p i (r.escrow i) stood).0
       go Held e g = inr (
-        not_from_true _ (and_from _ _ (eq-eqb _ _ (sym h.entering.1)) (subst (λ z. begins z q ≡ true) (sym h.entering.1) (way_begins p way))),
+        not_from_true _ (and_from _ _ (eq-eqb _ _ (sym h.entering.1))
+            (subst (λ z. begins z q ≡ true) (sym h.entering.1) (way_begins p way))),
         (
           not_from_true _ (rw e refl),
           (
@@ -237,7 +246,8 @@ module _ (p : Swap) (s : Sound p) (takes : Takes p) (enough : Enough p) (r : Run
           absurd (omega arith)
 
   -- a conforming party's refund passes every test on an open leg
-  refund_passes : (i : ℕ) → RefundLine p r.escrow (r.line n).filer (r.line n).filed (r.verdict n) i → (r.escrow i).phase ≡ Held → Fails (tests_of (Refund i))
+  refund_passes : (i : ℕ) → RefundLine p r.escrow (r.line n).filer (r.line n).filed (r.verdict n) i → (r.escrow i).phase ≡ Held
+      → Fails (tests_of (Refund i))
   refund_passes i h e =
       let d = h.due in (
         not_from_true _ (eq-eqb _ _ (sym h.leaving.1)),
@@ -254,11 +264,13 @@ module _ (p : Swap) (s : Sound p) (takes : Takes p) (enough : Enough p) (r : Run
   took_alters : (x : Transaction) → (r.line n).transaction ≡ x → Fails (tests_of x) → Fair p x
       → (conforming p (r.line n).filer ≡ true → LineFact p r.escrow r.signed r.begun (r.line n).filer (r.line n).filed (r.verdict n) x)
       → Alter p r n (leg_of x) (r.escrow (leg_of x)) (altered p r.tick x (r.escrow (leg_of x)))
-  took_alters (Open i asset locks) e f g h = alter_open p s r n i g.0 (r.escrow i) asset locks e (λ c. ((h c).begins, (h c).planned.0, (h c).planned.1)) g.1 (shape_of p r k i g.0) f
+  took_alters (Open i asset locks) e f g h = alter_open p s r n i g.0 (r.escrow i) asset locks e
+      (λ c. ((h c).begins, (h c).planned.0, (h c).planned.1)) g.1 (shape_of p r k i g.0) f
   took_alters (Key i q) e f g h = alter_key p s r n i g.0 (r.escrow i) q (shape_of p r k i g.0) f
   took_alters (Refund i) e f g h = alter_refund p s r n i g.0 (r.escrow i) (shape_of p r k i g.0) f
 
-  took_fact : (x : Transaction) → (escrow : ℕ → Escrow) → escrow (leg_of x) ≡ altered p r.tick x (r.escrow (leg_of x)) → conforming p (r.line n).filer ≡ true
+  took_fact : (x : Transaction) → (escrow : ℕ → Escrow) → escrow (leg_of x) ≡ altered p r.tick x (r.escrow (leg_of x))
+      → conforming p (r.line n).filer ≡ true
       → LineFact p r.escrow r.signed r.begun (r.line n).filer (r.line n).filed (r.verdict n) x
       → LineFact p escrow r.signed r.begun (r.line n).filer (r.line n).filed 0 x
   took_fact (Open i asset locks) escrow e c h = record {
@@ -269,7 +281,8 @@ module _ (p : Swap) (s : Sound p) (takes : Takes p) (enough : Enough p) (r : Run
     intime = h.intime;
     waits = λ z. absurd (omega arith);
     took = λ _. subst (λ y. stands p i y ≡ true) (sym e)
-        (stand p i (altered p r.tick (Open i asset locks) (r.escrow i)) refl h.planned.0 (subst (λ l. all_leaders p l ≡ true) (sym h.planned.1) (leaders_self p)));
+        (stand p i (altered p r.tick (Open i asset locks) (r.escrow i)) refl h.planned.0
+        (subst (λ l. all_leaders p l ≡ true) (sym h.planned.1) (leaders_self p)));
   }
   took_fact (Key i q) escrow e c h = record {
     entering = h.entering;
@@ -311,10 +324,12 @@ module _ (p : Swap) (s : Sound p) (takes : Takes p) (enough : Enough p) (r : Run
       (λ i b. put_case (λ e. Alter p r n i (r.escrow i) e) r.escrow (leg_of x) e' i
       (λ z. subst (λ j. Alter p r n j (r.escrow j) e') (sym z) (took_alters x refl f fair (k.lines.facts n nb)))
       (λ _. unaltered p r n i (r.escrow i)))
-      (λ c. took_fact x (effect p r.tick x (r.escrow, r.stock)).0 (put_same r.escrow (leg_of x) e' (leg_of x) refl) c (k.lines.facts n nb c))
+      (λ c. took_fact x (effect p r.tick x (r.escrow, r.stock)).0 (put_same r.escrow (leg_of x) e' (leg_of x) refl) c
+      (k.lines.facts n nb c))
       (takes r.tick r.signed (r.line n).filer x r.escrow r.stock fair f k.books)
 
-  inv_refused : (w : ℕ) → (w ≡ 0 → ⊥) → (w ≡ pending → ⊥) → (Fails (tests_of (r.line n).transaction) → w ≡ 0) → Inv p (recorded p r n w (r.escrow, r.stock))
+  inv_refused : (w : ℕ) → (w ≡ 0 → ⊥) → (w ≡ pending → ⊥) → (Fails (tests_of (r.line n).transaction) → w ≡ 0)
+      → Inv p (recorded p r n w (r.escrow, r.stock))
   inv_refused w d z zero' =
       inv_recorded p s r k n nb w z r.escrow r.stock (λ i b. unaltered p r n i (r.escrow i))
       (λ c. refused_fact w d (r.line n).transaction zero' c (k.lines.facts n nb c)) k.books
@@ -331,7 +346,8 @@ module _ (p : Swap) (s : Sound p) (takes : Takes p) (enough : Enough p) (r : Run
       go true e =
           let z : w ≡ 0 = eqb-true w 0 e in
           subst (λ y. Inv p (recorded p r n y (effect p r.tick (r.line n).transaction (r.escrow, r.stock)))) (sym z)
-          (inv_took (took (tests_of (r.line n).transaction) (numbered p r.tick r.signed r.stock (r.line n).filer (r.line n).transaction _) z))
+          (inv_took (took (tests_of (r.line n).transaction)
+          (numbered p r.tick r.signed r.stock (r.line n).filer (r.line n).transaction _) z))
       go false e =
           let u = below (tests_of (r.line n).transaction) (numbered p r.tick r.signed r.stock (r.line n).filer (r.line n).transaction _) in
           inv_refused w (eqb-false w 0 e) (λ z. omega arith) (λ f. passes (tests_of (r.line n).transaction) f)

@@ -36,11 +36,13 @@ has_file r v x u y h =
     (h.0, omega arith, ap (λ l. l.filer) e ∙ h.2, ap (λ l. l.transaction) e ∙ h.3)
 
 module _ (p : Swap) (r : Run) (v : ℕ) (x : Transaction) where
-  lines_file : Lines p r → Fair p x → (conforming p v ≡ false → p.outsider v ≡ true) → (conforming p v ≡ true → LineFact p r.escrow r.signed r.begun v r.tick pending x)
+  lines_file : Lines p r → Fair p x → (conforming p v ≡ false → p.outsider v ≡ true)
+      → (conforming p v ≡ true → LineFact p r.escrow r.signed r.begun v r.tick pending x)
       → (conforming p v ≡ true → NoLine r v x) → Lines p (file v x r)
   lines_file k fair who fact none = record {
     fair = λ n h. put_case (λ l. Fair p l.transaction) r.line r.count (as_line v x r) n (λ _. fair) (λ d. k.fair n (omega arith));
-    who = λ n h. put_case (λ l. conforming p l.filer ≡ false → p.outsider l.filer ≡ true) r.line r.count (as_line v x r) n (λ _. who) (λ d. k.who n (omega arith));
+    who = λ n h. put_case (λ l. conforming p l.filer ≡ false → p.outsider l.filer ≡ true) r.line r.count (as_line v x r) n (λ _. who)
+        (λ d. k.who n (omega arith));
     before = λ n h. put_case (λ l. l.filed ≤ r.tick) r.line r.count (as_line v x r) n (λ _. omega arith) (λ d. k.before n (omega arith));
     waits = λ n h. put2_case (λ l w. w ≡ pending → r.tick ≤ l.filed + p.delta) r.line r.verdict r.count (as_line v x r) pending n
         (λ _ _. omega arith) (λ d. k.waits n (omega arith));
@@ -51,8 +53,10 @@ module _ (p : Swap) (r : Run) (v : ℕ) (x : Transaction) where
         r.line r.count (as_line v x r) n
         (λ e c. put_case (λ l. v ≡ l.filer → purpose x ≡ purpose l.transaction → n ≡ m) r.line r.count (as_line v x r) m
         (λ d _ _. e ∙ sym d) (λ d f q. absurd (none c m (omega arith) (sym f) (sym q))))
-        (λ e c. put_case (λ l. (r.line n).filer ≡ l.filer → purpose (r.line n).transaction ≡ purpose l.transaction → n ≡ m) r.line r.count (as_line v x r) m
-        (λ d f q. absurd (none (subst (λ w. conforming p w ≡ true) f c) n (omega arith) f q)) (λ d. k.once n m (omega arith) (omega arith) c));
+        (λ e c. put_case (λ l. (r.line n).filer ≡ l.filer → purpose (r.line n).transaction ≡ purpose l.transaction → n ≡ m) r.line r.count
+        (as_line v x r) m
+        (λ d f q. absurd (none (subst (λ w. conforming p w ≡ true) f c) n (omega arith) f q))
+        (λ d. k.once n m (omega arith) (omega arith) c));
   }
 
   duties_file : Duties p r → Duties p (file v x r)
@@ -63,7 +67,8 @@ module _ (p : Swap) (r : Run) (v : ℕ) (x : Transaction) where
     refunding = λ u i c b l h. ⊎_elim (λ h. inl (has_file r v x u _ h)) (λ h. inr h) (d.refunding u i c b l h);
   }
 
-  pub inv_file : Inv p r → Fair p x → (conforming p v ≡ false → p.outsider v ≡ true) → (conforming p v ≡ true → LineFact p r.escrow r.signed r.begun v r.tick pending x)
+  pub inv_file : Inv p r → Fair p x → (conforming p v ≡ false → p.outsider v ≡ true)
+      → (conforming p v ≡ true → LineFact p r.escrow r.signed r.begun v r.tick pending x)
       → (conforming p v ≡ true → NoLine r v x) → outsiders p (file v x r) ≤ outsider_lines → Inv p (file v x r)
   inv_file i fair who fact none few = record {
     facts = i.facts;
@@ -74,7 +79,8 @@ module _ (p : Swap) (r : Run) (v : ℕ) (x : Transaction) where
   }
 
 -- what a conforming party may file is in time, and can be delivered
-pub may_fact : (p : Swap) → Sound p → (r : Run) → Inv p r → (v : ℕ) (x : Transaction) → conforming p v ≡ true → MayFile p r v x → NoLine r v x
+pub may_fact : (p : Swap) → Sound p → (r : Run) → Inv p r → (v : ℕ) (x : Transaction) → conforming p v ≡ true → MayFile p r v x
+    → NoLine r v x
     → Fair p x × LineFact p r.escrow r.signed r.begun v r.tick pending x
 may_fact p s r k v x c (open' {i} leaving begun) none =
     let due = ⊎_elim {C = (r.tick + p.delta ≤ open_end p) × (p.leader v ≡ true → r.tick ≡ 0)}
@@ -107,7 +113,8 @@ module _ (p : Swap) (s : Sound p) (r : Run) (k : Inv p r) (v : ℕ) (c : conform
   still : (u : ℕ) → r.begun u ≡ true → put r.begun v true u ≡ true
   still u h = put_case (λ b. b ≡ true) r.begun v true u (λ _. refl) (λ _. h)
 
-  begun_fact : (u f n : ℕ) (x : Transaction) → LineFact p r.escrow r.signed r.begun u f n x → LineFact p r.escrow r.signed (put r.begun v true) u f n x
+  begun_fact : (u f n : ℕ) (x : Transaction) → LineFact p r.escrow r.signed r.begun u f n x
+      → LineFact p r.escrow r.signed (put r.begun v true) u f n x
   begun_fact u f n (Open i asset locks) h = record {
     leaving = h.leaving;
     planned = h.planned;
@@ -146,8 +153,10 @@ module _ (p : Swap) (s : Sound p) (r : Run) (k : Inv p r) (v : ℕ) (c : conform
       signs = k.facts.signs;
       signs_led = k.facts.signs_led;
       followed = λ u d e. put_case (λ b. b ≡ true → entering_stand p r.escrow u ≡ true) r.begun v true u
-          (λ q _. subst (λ w. entering_stand p r.escrow w ≡ true) (sym q) (follower (subst (λ w. p.leader w ≡ false) q e))) (λ _. k.facts.followed u d e);
-      leading = λ u d e. put_case (λ b. b ≡ false → r.tick ≡ 0) r.begun v true u (λ _ z. absurd (clash true refl z)) (λ _. k.facts.leading u d e);
+          (λ q _. subst (λ w. entering_stand p r.escrow w ≡ true) (sym q) (follower (subst (λ w. p.leader w ≡ false) q e)))
+          (λ _. k.facts.followed u d e);
+      leading =
+          λ u d e. put_case (λ b. b ≡ false → r.tick ≡ 0) r.begun v true u (λ _ z. absurd (clash true refl z)) (λ _. k.facts.leading u d e);
       revealing = k.facts.revealing;
       relaying = k.facts.relaying;
     };
@@ -161,9 +170,11 @@ module _ (p : Swap) (s : Sound p) (r : Run) (k : Inv p r) (v : ℕ) (c : conform
     };
     duties = record {
       opening = λ u i d. put_case
-          (λ b. b ≡ true → Leaving p u i → HasLine r u (Open i (p.asset i) p.leader) ⊎ ((r.tick + p.delta ≤ open_end p) × (p.leader u ≡ true → r.tick ≡ 0)))
+          (λ b. b ≡ true → Leaving p u i → HasLine r u (Open i (p.asset i) p.leader)
+          ⊎ ((r.tick + p.delta ≤ open_end p) × (p.leader u ≡ true → r.tick ≡ 0)))
           r.begun v true u
-          (λ q _ l. inr (subst (λ w. (r.tick + p.delta ≤ open_end p) × (p.leader w ≡ true → r.tick ≡ 0)) (sym q) (timely (p.leader v) refl)))
+          (λ q _ l. inr (subst (λ w. (r.tick + p.delta ≤ open_end p) × (p.leader w ≡ true → r.tick ≡ 0)) (sym q)
+          (timely (p.leader v) refl)))
           (λ _ b l. k.duties.opening u i d b l);
       raised = k.duties.raised;
       passing = k.duties.passing;
@@ -186,7 +197,7 @@ module _ (p : Swap) (s : Sound p) (r : Run) (k : Inv p r) (v lock : ℕ) (route 
     (stood : entering_stand p r.escrow v ≡ true) (unsigned : r.signed v lock ≡ None) where
   kept : (u l : ℕ) (q : List ℕ) → r.signed u l ≡ Some q → put r.signed v (put (r.signed v) lock (Some route)) u l ≡ Some q
   kept u l q h = signs_case (λ o. o ≡ Some q) r.signed v lock route u l
-      (λ e d. let z : r.signed u l ≡ None = cc in let y : ◌≡◌ {A = ℕ} 0 1 = cc in absurd (omega arith)) h
+      (λ e d. let z : r.signed u l ≡ None = cc in grind arith) h
 
   unkept : (u l : ℕ) → put r.signed v (put (r.signed v) lock (Some route)) u l ≡ None → r.signed u l ≡ None
   unkept u l = signs_case (λ o. o ≡ None → r.signed u l ≡ None) r.signed v lock route u l (λ e d _. cc) (λ h. h)
@@ -198,7 +209,8 @@ module _ (p : Swap) (s : Sound p) (r : Run) (k : Inv p r) (v lock : ℕ) (route 
   signed_fact u f n (Refund i) h = h
 
 -- the route that a party may sign is joined and its suffixes are signed
-fresh_way : (p : Swap) (s : Sound p) (r : Run) (k : Inv p r) (v : ℕ) (c : conforming p v ≡ true) (stood : entering_stand p r.escrow v ≡ true) (lock : ℕ) (route : List ℕ)
+fresh_way : (p : Swap) (s : Sound p) (r : Run) (k : Inv p r) (v : ℕ) (c : conforming p v ≡ true)
+    (stood : entering_stand p r.escrow v ≡ true) (lock : ℕ) (route : List ℕ)
     → r.signed v lock ≡ None → MaySign p r v lock route → Way p (put r.signed v (put (r.signed v) lock (Some route))) v lock route
 fresh_way p s r k v c stood lock route unsigned (own leads) = one (λ _. signs_new r.signed v v (v ∷ []))
 fresh_way p s r k v c stood lock route unsigned (other {route = q} differs j leaving shows low) =
@@ -212,7 +224,8 @@ may_led p r k v lock route (own leads) = leads
 may_led p r k v lock route (other {route = q} differs j leaving shows low) = k.facts.led j lock q leaving.0 shows
 
 -- and it can be passed on in time
-in_time : (p : Swap) (r : Run) (k : Inv p r) (v : ℕ) (c : conforming p v ≡ true) (stood : entering_stand p r.escrow v ≡ true) (lock : ℕ) (route : List ℕ)
+in_time : (p : Swap) (r : Run) (k : Inv p r) (v : ℕ) (c : conforming p v ≡ true) (stood : entering_stand p r.escrow v ≡ true) (lock : ℕ)
+    (route : List ℕ)
     → r.signed v lock ≡ None → MaySign p r v lock route → r.tick + p.delta ≤ key_end p (length route)
 in_time p r k v c stood lock route unsigned (own leads) = let h = k.facts.revealing v c leads stood unsigned in omega arith
 in_time p r k v c stood lock route unsigned (other {route = q} differs j leaving shows low) =
@@ -233,12 +246,14 @@ module _ (p : Swap) (s : Sound p) (r : Run) (k : Inv p r) (v lock : ℕ) (route 
       returned = k.facts.returned;
       planned = k.facts.planned;
       late = k.facts.late;
-      signs = λ u l q d. signs_case (λ o. o ≡ Some q → Way p (put r.signed v (put (r.signed v) lock (Some route))) u l q × (entering_stand p r.escrow u ≡ true))
+      signs = λ u l q d. signs_case (λ o. o ≡ Some q → Way p (put r.signed v (put (r.signed v) lock (Some route))) u l q
+          × (entering_stand p r.escrow u ≡ true))
           r.signed v lock route u l
           (λ a b e. let z : route ≡ q = cc in (
             subst (λ o. Way p (put r.signed v (put (r.signed v) lock (Some route))) u l o) z
                 (subst (λ w. Way p (put r.signed v (put (r.signed v) lock (Some route))) w l route) (sym a)
-                (subst (λ w. Way p (put r.signed v (put (r.signed v) lock (Some route))) v w route) (sym b) (fresh_way p s r k v c stood lock route unsigned may))),
+                (subst (λ w. Way p (put r.signed v (put (r.signed v) lock (Some route))) v w route) (sym b)
+                (fresh_way p s r k v c stood lock route unsigned may))),
             subst (λ w. entering_stand p r.escrow w ≡ true) (sym a) stood,
           ))
           (λ e. let h = k.facts.signs u l q d e in (way_mono p (λ u m o _ g. kept p s r k v lock route c stood unsigned u m o g) h.0, h.1));
@@ -254,15 +269,18 @@ module _ (p : Swap) (s : Sound p) (r : Run) (k : Inv p r) (v lock : ℕ) (route 
       who = k.lines.who;
       before = k.lines.before;
       waits = k.lines.waits;
-      facts = λ n h d. signed_fact p s r k v lock route c stood unsigned (r.line n).filer (r.line n).filed (r.verdict n) (r.line n).transaction (k.lines.facts n h d);
+      facts = λ n h d. signed_fact p s r k v lock route c stood unsigned (r.line n).filer (r.line n).filed (r.verdict n)
+          (r.line n).transaction (k.lines.facts n h d);
       once = k.lines.once;
     };
     duties = record {
       opening = k.duties.opening;
       raised = k.duties.raised;
-      passing = λ u l i q d. signs_case (λ o. o ≡ Some q → Entering p u i → HasLine r u (Key i q) ⊎ (r.tick + p.delta ≤ key_end p (length q)))
+      passing =
+          λ u l i q d. signs_case (λ o. o ≡ Some q → Entering p u i → HasLine r u (Key i q) ⊎ (r.tick + p.delta ≤ key_end p (length q)))
           r.signed v lock route u l
-          (λ a b e _. let z : route ≡ q = cc in inr (subst (λ o. r.tick + p.delta ≤ key_end p (length o)) z (in_time p r k v c stood lock route unsigned may)))
+          (λ a b e _. let z : route ≡ q = cc in inr
+          (subst (λ o. r.tick + p.delta ≤ key_end p (length o)) z (in_time p r k v c stood lock route unsigned may)))
           (k.duties.passing u l i q d);
       refunding = k.duties.refunding;
     };

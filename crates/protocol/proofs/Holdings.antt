@@ -16,7 +16,8 @@ use Rattle.swap.specs.declared.records.Holder.TheVariants.{Party, Escrow}
 -- a holding is one party's
 one_holder : (n party : ℕ) (b : Bool) (w : ℕ) → party < n → sum_below n (λ v. cond (eqb party v && b) w 0) ≡ cond b w 0
 one_holder n party b w h =
-    let c = sum_changed n (λ v. cond (eqb party v && b) w 0) (λ _. 0) party h (λ v _ ne. ap (λ t. cond (t && b) w 0) (ne_eqb party v (λ e. ne (sym e)))) in
+    let c = sum_changed n (λ v. cond (eqb party v && b) w 0) (λ _. 0) party h
+    (λ v _ ne. ap (λ t. cond (t && b) w 0) (ne_eqb party v (λ e. ne (sym e)))) in
     let z = sum_zero n (λ _. 0) (λ _ _. refl) in
     let e : cond (eqb party party && b) w 0 ≡ cond b w 0 = ap (λ t. cond (t && b) w 0) (eq-eqb party party refl) in
     omega arith
@@ -38,12 +39,14 @@ module _ (p : Swap) (sound : Sound p) where
       let each = sum_same n (λ v. entered p k l (Party v) u) (λ v. sum_below k (term v)) (λ v _. entered_party p v l u k) in
       let turned = sum_swap k n term in
       let ones = sum_same k (λ j. sum_below n (λ v. term v j)) (adds l u)
-      (λ j b. let h = (sound.holders j (omega arith)).0 in one_holder n (p.holder j) (eqb (p.held_on j) l) (worth (rules_of l) (p.held j) u) (omega arith)) in
+      (λ j b. let h = (sound.holders j (omega arith)).0 in one_holder n (p.holder j) (eqb (p.held_on j) l) (worth (rules_of l) (p.held j) u)
+      (omega arith)) in
       let none = sum_zero m (λ i. entered p k l (Escrow i) u) (λ i _. entered_account p i l u k) in
       omega arith
 
   -- with each holding more, no ceiling is passed
-  below : (k l u : ℕ) → k < p.holdings → sum_below p.holdings (adds l u) ≤ (rules_of l).ceiling → sum_below k (adds l u) + adds l u k ≤ (rules_of l).ceiling
+  below : (k l u : ℕ) → k < p.holdings → sum_below p.holdings (adds l u) ≤ (rules_of l).ceiling
+      → sum_below k (adds l u) + adds l u k ≤ (rules_of l).ceiling
   below k l u h most = let t = sum_front (suc k) p.holdings (adds l u) h in omega arith
 
 pub holdings : Holdings

@@ -27,7 +27,8 @@ pub record Facts (p : Swap) (t : ℕ) (escrow : ℕ → Escrow) (σ : Signed) (b
   pub routes : (i lock : ℕ) (q : List ℕ) → i < p.legs → (escrow i).opened lock ≡ Some q → Way p σ (p.receiver i) lock q
   -- opened locks, and those of an escrow, are leaders'
   pub led : (i lock : ℕ) (q : List ℕ) → i < p.legs → (escrow i).opened lock ≡ Some q → p.leader lock ≡ true
-  pub proper : (i lock : ℕ) → i < p.legs → is_vacant (escrow i).phase ≡ false → lock < set_bits → (escrow i).locks lock ≡ true → p.leader lock ≡ true
+  pub proper : (i lock : ℕ) → i < p.legs → is_vacant (escrow i).phase ≡ false → lock < set_bits → (escrow i).locks lock ≡ true
+      → p.leader lock ≡ true
   pub ranged : (i : ℕ) → i < p.legs → is_vacant (escrow i).phase ≡ false → asset_on (p.ledger i) (escrow i).asset ≡ true
   pub shut : (i lock : ℕ) → i < p.legs → (escrow i).phase ≡ Vacant → (escrow i).opened lock ≡ None
   pub held : (i : ℕ) → i < p.legs → (escrow i).phase ≡ Held → all_opened (escrow i).locks (escrow i).opened ≡ false
@@ -106,13 +107,16 @@ pub record Duties (p : Swap) (r : Run) : Type 0 where
 -- what is in the books
 abbrev pub gone : Swap → (ℕ → Escrow) → ℕ → ℕ → ℕ → ℕ → ℕ
 gone p escrow v l u i =
-    cond (eqb (p.payer i) v && eqb (p.ledger i) l && (is_held (escrow i).phase || is_paid (escrow i).phase)) (worth (rules_of l) (escrow i).asset u) 0
+    cond (eqb (p.payer i) v && eqb (p.ledger i) l && (is_held (escrow i).phase || is_paid (escrow i).phase))
+    (worth (rules_of l) (escrow i).asset u) 0
 
 abbrev pub come : Swap → (ℕ → Escrow) → ℕ → ℕ → ℕ → ℕ → ℕ
-come p escrow v l u i = cond (eqb (p.receiver i) v && eqb (p.ledger i) l && is_paid (escrow i).phase) (worth (rules_of l) (escrow i).asset u) 0
+come p escrow v l u i =
+    cond (eqb (p.receiver i) v && eqb (p.ledger i) l && is_paid (escrow i).phase) (worth (rules_of l) (escrow i).asset u) 0
 
 pub record Books (p : Swap) (escrow : ℕ → Escrow) (stock : Stock) : Type 0 where
-  pub parties : (v l u : ℕ) → stock l (Party v) u + sum_below p.legs (gone p escrow v l u) ≡ start p v l u + sum_below p.legs (come p escrow v l u)
+  pub parties : (v l u : ℕ) → stock l (Party v) u + sum_below p.legs (gone p escrow v l u) ≡ start p v l u + sum_below p.legs
+      (come p escrow v l u)
   pub accounts : (i l u : ℕ) → i < p.legs
       → stock l (Account i) u ≡ cond (eqb (p.ledger i) l && is_held (escrow i).phase) (worth (rules_of l) (escrow i).asset u) 0
 

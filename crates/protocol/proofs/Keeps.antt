@@ -35,19 +35,19 @@ few_fresh p = omega arith
 pub inv_fresh : (p : Swap) → Sound p → Inv p (fresh p)
 inv_fresh p s = record {
   facts = record {
-    routes = λ i lock q b h. let y : ◌≡◌ {A = ℕ} 0 1 = cc in absurd (omega arith);
-    led = λ i lock q b h. let y : ◌≡◌ {A = ℕ} 0 1 = cc in absurd (omega arith);
-    proper = λ i lock b h. let y : ◌≡◌ {A = ℕ} 0 1 = cc in absurd (omega arith);
-    ranged = λ i b h. let y : ◌≡◌ {A = ℕ} 0 1 = cc in absurd (omega arith);
+    routes = λ i lock q b h. grind arith;
+    led = λ i lock q b h. grind arith;
+    proper = λ i lock b h. grind arith;
+    ranged = λ i b h. grind arith;
     shut = λ i lock b h. refl;
-    held = λ i b h. let y : ◌≡◌ {A = ℕ} 0 1 = cc in absurd (omega arith);
-    paid = λ i b h. let y : ◌≡◌ {A = ℕ} 0 1 = cc in absurd (omega arith);
-    returned = λ i b h. let y : ◌≡◌ {A = ℕ} 0 1 = cc in absurd (omega arith);
-    planned = λ i b c h. let y : ◌≡◌ {A = ℕ} 0 1 = cc in absurd (omega arith);
-    late = λ i b h. let y : ◌≡◌ {A = ℕ} 0 1 = cc in absurd (omega arith);
-    signs = λ v lock q c h. let y : ◌≡◌ {A = ℕ} 0 1 = cc in absurd (omega arith);
-    signs_led = λ v lock q c h. let y : ◌≡◌ {A = ℕ} 0 1 = cc in absurd (omega arith);
-    followed = λ v c l h. let y : ◌≡◌ {A = ℕ} 0 1 = cc in absurd (omega arith);
+    held = λ i b h. grind arith;
+    paid = λ i b h. grind arith;
+    returned = λ i b h. grind arith;
+    planned = λ i b c h. grind arith;
+    late = λ i b h. grind arith;
+    signs = λ v lock q c h. grind arith;
+    signs_led = λ v lock q c h. grind arith;
+    followed = λ v c l h. grind arith;
     leading = λ v c l h. refl;
     revealing = λ v c l h o. omega arith;
     relaying = λ v lock j q c d h l o g. omega arith;
@@ -61,21 +61,23 @@ inv_fresh p s = record {
     once = λ n m h. absurd (omega arith);
   };
   duties = record {
-    opening = λ v i c h. let y : ◌≡◌ {A = ℕ} 0 1 = cc in absurd (omega arith);
-    raised = λ i b c h. let y : ◌≡◌ {A = ℕ} 0 1 = cc in absurd (omega arith);
-    passing = λ v lock i q c h. let y : ◌≡◌ {A = ℕ} 0 1 = cc in absurd (omega arith);
-    refunding = λ v i c l h. let y : ◌≡◌ {A = ℕ} 0 1 = cc in absurd (omega arith);
+    opening = λ v i c h. grind arith;
+    raised = λ i b c h. grind arith;
+    passing = λ v lock i q c h. grind arith;
+    refunding = λ v i c l h. grind arith;
   };
   books = books_fresh p s;
   few = few_fresh p;
 }
 
 pub inv_step : (p : Swap) → Sound p → (r t : Run) → Inv p r → Step p r t → Inv p t
-inv_step p s r t k (outside _ v x o d h) = inv_file p r v x k (fair p x h) (λ _. o) (λ c. absurd (outsider_not p v o c)) (λ c. absurd (outsider_not p v o c))
+inv_step p s r t k (outside _ v x o d h) =
+    inv_file p r v x k (fair p x h) (λ _. o) (λ c. absurd (outsider_not p v o c)) (λ c. absurd (outsider_not p v o c))
     (let a = outsiders_file p r v x in let b : one_if (p.outsider v) ≡ 1 = ap one_if o in omega arith)
 inv_step p s r t k (begins _ v c b m) = inv_begin p s r k v c m
 inv_step p s r t k (signs _ v lock q c e u m) = inv_sign p s r k v lock q c e u m
-inv_step p s r t k (files _ v x c m n) = let f = may_fact p s r k v x c m n in inv_file p r v x k f.0 (λ d. absurd (clash _ c d)) (λ _. f.1) (λ _. n)
+inv_step p s r t k (files _ v x c m n) =
+    let f = may_fact p s r k v x c m n in inv_file p r v x k f.0 (λ d. absurd (clash _ c d)) (λ _. f.1) (λ _. n)
     (let a = outsiders_file p r v x in let b : one_if (p.outsider v) ≡ 0 = ap one_if (conforming_not p v c) in let e = k.few in omega arith)
 inv_step p s r t k (delivers _ n b w e) = inv_deliver p s (books_took p s) (enough p s) r k n b w e
 inv_step p s r t k (ticks _ rest) = inv_tick p r k rest
@@ -137,7 +139,8 @@ module _ (p : Swap) (s : Sound p) (r : Run) (k : Inv p r) (rest : Rested p r) wh
         signed : (lock : ℕ) → p.leader lock ≡ true → is_some (r.signed v lock) ≡ true
         signed lock l = ⊎_elim (λ t. t)
             (λ f. let u = none_of (r.signed v lock) f in absurd (⊎_elim
-            (λ e. (rest.done v c).reveals (subst (λ z. p.leader z ≡ true) e l) (all (p.leader v) refl) (subst (λ z. r.signed v z ≡ None) e u))
+            (λ e. (rest.done v c).reveals (subst (λ z. p.leader z ≡ true) e l) (all (p.leader v) refl)
+            (subst (λ z. r.signed v z ≡ None) e u))
             (λ d. let o = of_some ((r.escrow j).opened lock) (shown lock l) in
             (rest.done v c).relays lock j o.0 d (all (p.leader v) refl) (jb, je) o.1 u)
             (cases_eq lock v)))
@@ -145,7 +148,8 @@ module _ (p : Swap) (s : Sound p) (r : Run) (k : Inv p r) (rest : Rested p r) wh
 
         opened : all_opened (r.escrow i).locks (r.escrow i).opened ≡ true
         opened = opened_of (r.escrow i).locks (r.escrow i).opened (λ lock b l.
-            let t : p.leader lock ≡ true = sym (leader_lock p (r.escrow i).locks (standing p i (r.escrow i) (stood i (ib, ie))).2 lock b) ∙ l in
+            let t : p.leader lock ≡ true = sym (leader_lock p (r.escrow i).locks (standing p i (r.escrow i) (stood i (ib, ie))).2 lock b)
+            ∙ l in
             let q = of_some (r.signed v lock) (signed lock t) in
             arrived lock q.0 q.1 i (ib, ie))
 
@@ -166,7 +170,8 @@ module _ (p : Swap) (s : Sound p) (r : Run) (k : Inv p r) (rest : Rested p r) wh
         (λ t. omega arith)
         (k.duties.refunding v i c (b, e) h (omega arith))
 
-    pub ended : (i : ℕ) → i < p.legs → p.payer i ≡ v → put_up p (r.escrow i) ≡ true → (is_paid (r.escrow i).phase || is_back (r.escrow i).phase) ≡ true
+    pub ended : (i : ℕ) → i < p.legs → p.payer i ≡ v → put_up p (r.escrow i) ≡ true
+        → (is_paid (r.escrow i).phase || is_back (r.escrow i).phase) ≡ true
     ended i b e h = go (r.escrow i).phase refl
       where
         go : (f : Phase) → (r.escrow i).phase ≡ f → (is_paid (r.escrow i).phase || is_back (r.escrow i).phase) ≡ true

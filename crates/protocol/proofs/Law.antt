@@ -4,8 +4,10 @@ use Rattle.protocol.proofs.Books.{start_stock}
 use Rattle.protocol.proofs.Complete.{ended_stays, Conform, Aims, aims_fresh, aims_step, complete}
 use Rattle.protocol.proofs.Filing.{inv_tick}
 use Rattle.protocol.proofs.Invariants.{Inv}
+use Rattle.protocol.proofs.Holdings.{holdings}
 use Rattle.protocol.proofs.Keeps.{inv_fresh, inv_step, inv_steps, atomic, ended, unfallen}
 use Rattle.protocol.proofs.Queue.{Delivered, delivered, heard_all, Quiet, quiet_inv, steps_then}
+use Rattle.protocol.proofs.Nevers.{nevers, pools}
 use Rattle.protocol.proofs.Reach.{Lasting, reached_lasts}
 use Rattle.protocol.proofs.Turns.{Turned, turned}
 use Rattle.protocol.specs.Calls.{fresh, ticked, Call, load, submit, tick', Answer, handled, Ticked, refusal, Effect, Settled, Answered, Reached, after, History, ended as over, called}
@@ -46,7 +48,8 @@ pub law : Law
 law s h = lasting_kept s (reached_lasts h)
 
 -- what has ended stays as it is
-handle_stays : (p : Swap) (n : ℕ) (r : Run) (i : ℕ) → is_vacant (r.escrow i).phase ≡ false → is_held (r.escrow i).phase ≡ false → (handle p n r).escrow i ≡ r.escrow i
+handle_stays : (p : Swap) (n : ℕ) (r : Run) (i : ℕ) → is_vacant (r.escrow i).phase ≡ false → is_held (r.escrow i).phase ≡ false
+    → (handle p n r).escrow i ≡ r.escrow i
 unfolding handle
 handle_stays p n r i a b = go (ltb n r.count && eqb (r.verdict n) pending)
   where
@@ -98,7 +101,8 @@ final_then (running p r ws) (idle stock vs) c f g = absurd f
 final_then (running p r ws) (running q s vs) (idle stock us) f g = absurd g
 final_then (running p r ws) (running q s vs) (running o t us) f g = (g.0 ∙ f.0, λ i h. g.1 i (f.1 i h), λ i h. g.2 i (f.2 i h))
 
-enter_final : (p : Swap) (r : Run) (ws : List Waiting) (v : ℕ) (x : Transaction) (vs : List Waiting) → Final (running p r ws) (running p (enter v x r) vs)
+enter_final : (p : Swap) (r : Run) (ws : List Waiting) (v : ℕ) (x : Transaction) (vs : List Waiting)
+    → Final (running p r ws) (running p (enter v x r) vs)
 unfolding enter
 enter_final p r ws v x vs = go (ltb r.count max_lines)
   where
@@ -127,7 +131,8 @@ call_final s c a s' k h = go (refusal s c) h
 pub call_kept : (s : State) (c : Call) (a : Answer) (s' : State) → Answered s c a s' → Reached s → Reached s' × Promises s' × Final s s'
 call_kept s c a s' h k = let next : Reached s' = after c a k h in (next, law s' next, call_final s c a s' k h)
 
-lawful_history : {s s' : State} {cs : List Call} {as' : List Answer} → History (λ _ _. Unit {0}) s cs as' s' → Reached s → History Lawful s cs as' s' × Reached s' × Final s s'
+lawful_history : {s s' : State} {cs : List Call} {as' : List Answer} → History (λ _ _. Unit {0}) s cs as' s' → Reached s
+    → History Lawful s cs as' s' × Reached s' × Final s s'
 lawful_history {s} over k = (over, k, same_final s)
 lawful_history (called {s} {s'} {s''} {c} {a} h u rest) k =
     let kept = call_kept s c a s' h k in
@@ -144,7 +149,8 @@ rules p r ws h =
       sound = q.sound;
       allowed = q.steps;
       rested = q.rested;
-      ticks = λ s left t. let w = turn_of p r s ws left t q in (steps_then (steps_then (then (stop r) (ticks r q.rested)) w.0.steps) w.1.steps, w.1.rested);
+      ticks = λ s left t. let w = turn_of p r s ws left t q
+          in (steps_then (steps_then (then (stop r) (ticks r q.rested)) w.0.steps) w.1.steps, w.1.rested);
     }
 
 -- nothing is delivered at tick 0
@@ -162,3 +168,6 @@ pub begins_with : Begins
 begins_with p r ws h z v l u =
     let q : Quiet p r ws = reached_lasts h in
     ap (λ f. f l (Party v) u) (unmoved p (fresh p) r (λ _. refl) q.steps z) ∙ start_stock p q.sound v l u
+
+-- what is never refused
+pub ruleset never = (nevers, pools, holdings, begins_with)

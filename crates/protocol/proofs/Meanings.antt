@@ -1,5 +1,5 @@
 -- The tests of the rules say what they are named for.
-use Rattle.std.proofs.Common.{◌≡◌, ℕ, Bool, true, false, not, ◌||◌, List, [], ◌∷◌, refl}
+use Rattle.std.proofs.Common.{◌≡◌, ℕ, Bool, true, false, not, ◌||◌, List, [], ◌∷◌, refl, arith}
 use Rattle.swap.proofs.Below.{all_in, all_of, some_in, some_of}
 use Rattle.protocol.proofs.Standing.{clash, entering_in, entering_of}
 use Rattle.protocol.proofs.Ways.{pays_in, pays_of}
@@ -31,12 +31,10 @@ module _ (p : Swap) where
       and_from _ _ (and_from _ _ (pays_of p j.0.0 j.0.1 x y j.0.2 j.0.3) (not_from_false _ j.1)) (true_joined (y ∷ r) j.2)
 
   implied : (a b : Bool) → (a ≡ true → b ≡ true) → (not a || b) ≡ true
-  implied true b h = h refl
-  implied false b h = refl
+  implied a b h = grind arith
 
   implies : (a b : Bool) → (not a || b) ≡ true → a ≡ true → b ≡ true
-  implies true b h e = h
-  implies false b h e = absurd (clash false e refl)
+  implies a b h e = grind arith
 
   pub tests_meant : Tests p
   unfolding proper_locks
@@ -44,8 +42,11 @@ module _ (p : Swap) where
     routes = λ r. exactly (joined p r) _ (joined_true r) (true_joined r);
     standing = λ escrow v. exactly _ _ (entering_in p escrow v) (entering_of p escrow v);
     locks = λ locks. exactly (proper_locks p locks) _
-        (λ e. let a = and_parts _ _ e in
-        (some_in set_bits locks a.0, λ q b h. implies (locks q) (p.leader q) (all_in set_bits (λ k. not (locks k) || p.leader k) a.1 q b) h))
+        (λ e. let a = and_parts _ _ e in (
+          some_in set_bits locks a.0,
+          λ q b h. implies (locks q) (p.leader q)
+              (all_in set_bits (λ k. not (locks k) || p.leader k) a.1 q b) h,
+        ))
         (λ h. and_from _ _ (some_of set_bits locks h.0.0 h.0.1 h.0.2)
         (all_of set_bits (λ k. not (locks k) || p.leader k) (λ q b. implied (locks q) (p.leader q) (h.1 q b))));
   }

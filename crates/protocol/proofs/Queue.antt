@@ -1,5 +1,5 @@
 -- What waits is exactly the lines without a verdict, each once.
-use Rattle.std.proofs.Common.{◌≡◌, ℕ, suc, ◌+◌, ◌<◌, ◌≤◌, Bool, true, false, cond, ◌&&◌, ◌||◌, eqb, ltb, List, [], ◌∷◌, length, Ok, Err, Result, sym, refl, ap, ◌∙◌, subst, ⊎_elim, arith}
+use Rattle.std.proofs.Common.{◌≡◌, ℕ, suc, ◌+◌, ◌<◌, ◌≤◌, Bool, true, false, cond, ◌&&◌, eqb, ltb, List, [], ◌∷◌, length, Ok, Err, Result, sym, refl, ap, ◌∙◌, subst, ⊎_elim, arith}
 use Rattle.protocol.proofs.Alter.{numbered}
 use Rattle.protocol.proofs.Basics.{put_case, below, one_if, one_most}
 use Rattle.protocol.proofs.Invariants.{Inv}
@@ -17,9 +17,9 @@ use Rattle.protocol.specs.State.{Transaction, leg_of, Line, Run}
 use Rattle.protocol.specs.Steps.{HasLine, Rested, outside, delivers, ticks, Steps, stop, then}
 use Rattle.protocol.specs.Tables.{put}
 use Rattle.protocol.specs.Verdicts.{pending, judged, tests, deliver, handle}
-use Rattle.std.proofs.ByRecursion.{All-weaker}
-use Rattle.std.proofs.lemmas.Bool.{eqb-true, eq-eqb, ne_eqb, ltb-true, lt-ltb, le-ltb, cases_eq, cases_lt, and_parts, and_from, and_left, and_right, or_from, not_from_false, cond-true, cond-false, both_ways}
-use Rattle.std.specs.List.{AllByRecursion}
+use Rattle.std.proofs.lemmas.Bool.{eqb-true, eq-eqb, ne_eqb, lt-ltb, le-ltb, cases_eq, cases_lt, and_from, and_left, and_right, not_from_false, cond-true, cond-false, both_ways}
+use Rattle.std.proofs.lemmas.List.Elements.{All-nil, All-head, All-tail, All-weaker}
+use Rattle.std.specs.List.{All}
 use Rattle.swap.specs.Routes.{mem, distinct}
 use Rattle.swap.specs.Limits.{outsider_lines, max_lines}
 use Rattle.swap.specs.Swaps.{Swap, Sound}
@@ -36,7 +36,7 @@ Known m line w = (w.number < m) × ((line w.number).filer ≡ w.filer) × ((line
 
 -- of the first m lines, ws has those without a verdict
 pub record Queue (m : ℕ) (line : ℕ → Line) (verdict : ℕ → ℕ) (ws : List Waiting) : Type 0 where
-  pub known : AllByRecursion (Known m line) ws
+  pub known : All (Known m line) ws
   pub once : (n : ℕ) → times n ws ≡ cond (ltb n m && eqb (verdict n) pending) 1 0
   pub short : length ws ≤ m
 
@@ -54,39 +54,26 @@ times_out here n = omega arith
 times_out (later t) n = let k = times_out t n in omega arith
 
 -- a number that waits is a line without a verdict
-all_times : (P : Waiting → Type 0) (n : ℕ) (ws : List Waiting) → AllByRecursion P ws → 0 < times n ws → (w : Waiting) × (w.number ≡ n) × P w
+all_times : (P : Waiting → Type 0) (n : ℕ) (ws : List Waiting) → All P ws → 0 < times n ws → (w : Waiting) × (w.number ≡ n) × P w
 all_times P n [] h l = absurd (omega arith)
-all_times P n (w ∷ ws) h l = go (all_times P n ws h.1) (eqb n w.number) refl
+all_times P n (w ∷ ws) h l = go (all_times P n ws (All-tail P w ws h)) (eqb n w.number) refl
   where
     go : (0 < times n ws → (w : Waiting) × (w.number ≡ n) × P w) → (b : Bool) → eqb n w.number ≡ b → (w : Waiting) × (w.number ≡ n) × P w
-    go more true e = (w, sym (eqb-true n w.number e), h.0)
+    go more true e = (w, sym (eqb-true n w.number e), All-head P w ws h)
     go more false e = more (let z : times n ws ≡ one_if (eqb n w.number) + times n ws = rw e (omega arith) in omega arith)
 
 module _ {m : ℕ} {line : ℕ → Line} {verdict : ℕ → ℕ} {ws : List Waiting} (q : Queue m line verdict ws) where
   -- nothing is handed out that is not a line without a verdict
   pub taken_waits : {w : Waiting} {rest : List Waiting} → Taken w ws rest → (w.number < m) × (verdict w.number ≡ pending)
-  taken_waits {w} {rest} t =
-      let n = w.number in
-      let a = times_out t n in
-      let b = q.once n in
-      let e : one_if (eqb n n) ≡ 1 = rw (eq-eqb n n refl) refl in
-      let d = and_parts (ltb n m) (eqb (verdict n) pending) (one_if_true (ltb n m && eqb (verdict n) pending) (omega arith)) in
-      (ltb-true n m d.0, eqb-true (verdict n) pending d.1)
+  taken_waits {w} t = grind (arith, times_out t w.number, q.once w.number)
 
   pub waits_taken : (n : ℕ) → n < m → verdict n ≡ pending → 0 < times n ws
-  waits_taken n h e =
-      let a = q.once n in
-      let d : one_if (ltb n m && eqb (verdict n) pending) ≡ 1 = rw (and_from (ltb n m) (eqb (verdict n) pending) (lt-ltb n m h) (eq-eqb (verdict n) pending e)) refl in
-      omega arith
+  waits_taken n h e = grind (arith, q.once n)
 
 -- the mempool takes a new line: its number does not wait, and fewer wait than the journal will have lines
 mem_times : (n : ℕ) (ws : List Waiting) → times n ws ≡ 0 → mem n (numbers ws) ≡ false
 mem_times n [] e = refl
-mem_times n (w ∷ ws) e = go (mem_times n ws) (eqb n w.number) refl
-  where
-    go : (times n ws ≡ 0 → mem n (numbers ws) ≡ false) → (b : Bool) → eqb n w.number ≡ b → (eqb n w.number || mem n (numbers ws)) ≡ false
-    go more true d = let z : one_if (eqb n w.number) ≡ 1 = rw d refl in absurd (omega arith)
-    go more false d = or_from _ _ d (more (omega arith))
+mem_times n (w ∷ ws) e = grind (arith, mem_times n ws)
 
 distinct_times : (ws : List Waiting) → ((n : ℕ) → times n ws ≤ 1) → distinct (numbers ws) ≡ true
 distinct_times [] h = refl
@@ -96,16 +83,18 @@ distinct_times (w ∷ ws) h =
     let a = h n in
     and_from _ _ (not_from_false _ (mem_times n ws (omega arith))) (distinct_times ws (λ k. let b = h k in omega arith))
 
-pub room_for : {m : ℕ} {line : ℕ → Line} {verdict : ℕ → ℕ} {ws : List Waiting} → Queue m line verdict ws → (mem m (numbers ws) ≡ false) × (length ws ≤ m)
+pub room_for : {m : ℕ} {line : ℕ → Line} {verdict : ℕ → ℕ} {ws : List Waiting} → Queue m line verdict ws
+    → (mem m (numbers ws) ≡ false) × (length ws ≤ m)
 room_for {m} {line} {verdict} {ws} q =
     (mem_times m ws (q.once m ∙ cond-false _ 1 0 (and_left _ _ (le-ltb m m (omega arith)))), q.short)
 
 pub numbers_apart : {m : ℕ} {line : ℕ → Line} {verdict : ℕ → ℕ} {ws : List Waiting} → Queue m line verdict ws → distinct (numbers ws) ≡ true
-numbers_apart {m} {line} {verdict} {ws} q = distinct_times ws (λ n. let a = q.once n in let b = one_most (ltb n m && eqb (verdict n) pending) in omega arith)
+numbers_apart {m} {line} {verdict} {ws} q =
+    distinct_times ws (λ n. let a = q.once n in let b = one_most (ltb n m && eqb (verdict n) pending) in omega arith)
 
 pub queue_none : (line : ℕ → Line) (verdict : ℕ → ℕ) → Queue 0 line verdict []
 queue_none line verdict = record {
-  known = tt;
+  known = All-nil (Known 0 line);
   once = λ n. sym (cond-false _ 1 0 (and_left _ _ (le-ltb n 0 (omega arith))));
   short = omega arith;
 }
@@ -133,7 +122,8 @@ ltb_suc k m d = ⊎_elim
     (cases_lt k m)
 
 -- one line more
-queue_more : (m : ℕ) (line : ℕ → Line) (verdict : ℕ → ℕ) (w : Waiting) (before after : List Waiting) → Queue m line verdict before → Taken w after before
+queue_more : (m : ℕ) (line : ℕ → Line) (verdict : ℕ → ℕ) (w : Waiting) (before after : List Waiting) → Queue m line verdict before
+    → Taken w after before
     → w.number ≡ m → (line m).filer ≡ w.filer → (line m).filed ≡ w.tick → verdict m ≡ pending → Queue (suc m) line verdict after
 queue_more m line verdict w before after q t e filer filed wait = record {
   known = all_taken (Known (suc m) line) t (omega arith, ap (λ k. (line k).filer) e ∙ filer, ap (λ k. (line k).filed) e ∙ filed)
@@ -141,7 +131,8 @@ queue_more m line verdict w before after q t e filer filed wait = record {
   once = λ k. times_out t k ∙ ⊎_elim
       (λ d. let a : times k before ≡ 0 = q.once k ∙ cond-false _ 1 0 (and_left _ _ (le-ltb k m (omega arith))) in
       let b : one_if (eqb k w.number) ≡ 1 = cond-true _ 1 0 (eq-eqb k w.number (omega arith)) in
-      let g : one_if (ltb k (suc m) && eqb (verdict k) pending) ≡ 1 = cond-true _ 1 0 (and_from _ _ (lt-ltb k (suc m) (omega arith)) (eq-eqb (verdict k) pending (ap verdict d ∙ wait))) in
+      let g : one_if (ltb k (suc m) && eqb (verdict k) pending) ≡ 1 =
+      cond-true _ 1 0 (and_from _ _ (lt-ltb k (suc m) (omega arith)) (eq-eqb (verdict k) pending (ap verdict d ∙ wait))) in
       omega arith)
       (λ d. let a = q.once k in
       let b : one_if (eqb k w.number) ≡ 0 = cond-false _ 1 0 (ne_eqb k w.number (λ g. d (g ∙ e))) in
@@ -167,13 +158,15 @@ queue_added {r} {n} (added {m} {ws} {before} {after} a answer t) q wait fits =
     (queue_more m r.line r.verdict (waiting_line r m) before after u.0 k.0 refl refl refl (wait m (added_more a) (omega arith)), (u.1, k.1))
 
 -- Filings that add lines, with what they add to what waits
-pub queue_filed : (r s : Run) (n : ℕ) (ws after : List Waiting) → r.count ≡ n → Longer r s → (a : Added s n s.count ws after) → Queued r ws → s.count ≤ max_lines
+pub queue_filed : (r s : Run) (n : ℕ) (ws after : List Waiting) → r.count ≡ n → Longer r s → (a : Added s n s.count ws after) → Queued r ws
+    → s.count ≤ max_lines
     → Queued s after × NoneRefused a
 queue_filed r s n ws after e l a q fits =
     queue_added a (subst (λ m. Queue m s.line s.verdict ws) e (queue_longer r s ws l q)) (λ k h m. (l.new k (omega arith) m).0) fits
 
 -- A delivery: the line has a verdict
-queue_judged : (m : ℕ) (line : ℕ → Line) (verdict : ℕ → ℕ) (w : Waiting) (before after : List Waiting) (j : ℕ) → j < 255 → Queue m line verdict before → Taken w before after
+queue_judged : (m : ℕ) (line : ℕ → Line) (verdict : ℕ → ℕ) (w : Waiting) (before after : List Waiting) (j : ℕ) → j < 255
+    → Queue m line verdict before → Taken w before after
     → Queue m line (put verdict w.number j) after
 queue_judged m line verdict w before after j small q t = record {
   known = (taken_all (Known m line) t q.known).1;
@@ -226,7 +219,8 @@ pub handle_deliver : (p : Swap) (n : ℕ) (s : Run) → n < s.count → s.verdic
 unfolding handle
 handle_deliver p n s h e = cond-true _ (deliver p n s) s (and_from _ _ (lt-ltb n s.count h) (eq-eqb (s.verdict n) pending e))
 
-drained : (p : Swap) (r s : Run) {handed ws left : List Waiting} → Drained handed ws left → Delivered p r s ws → ((n : ℕ) → n < r.count → (r.line n).filed < r.tick)
+drained : (p : Swap) (r s : Run) {handed ws left : List Waiting} → Drained handed ws left → Delivered p r s ws
+    → ((n : ℕ) → n < r.count → (r.line n).filed < r.tick)
     → Delivered p r (handled p handed s) left
 drained p r s Drained.none d old = d
 drained p r s (Drained.more {w} {taken} {before} {between} {after} t rest) d old =
@@ -234,12 +228,15 @@ drained p r s (Drained.more {w} {taken} {before} {between} {after} t rest) d old
     drained p r (handle p w.number s) rest
     (subst (λ y. Delivered p r y between) (sym (handle_deliver p w.number s h.0 h.1)) (deliver_one p r s w before between old d t)) old
 
-pub delivered : (p : Swap) (r : Run) {handed ws left : List Waiting} → Drained handed ws left → Queued r ws → ((n : ℕ) → n < r.count → (r.line n).filed < r.tick)
+pub delivered : (p : Swap) (r : Run) {handed ws left : List Waiting} → Drained handed ws left → Queued r ws
+    → ((n : ℕ) → n < r.count → (r.line n).filed < r.tick)
     → Delivered p r (handled p handed r) left
-delivered p r t q old = drained p r r t (record { steps = stop r; tick = refl; count = refl; line = refl; signed = refl; begun = refl; queue = q }) old
+delivered p r t q old =
+    drained p r r t (record { steps = stop r; tick = refl; count = refl; line = refl; signed = refl; begun = refl; queue = q }) old
 
 -- After a tick's deliveries, when none is left that has waited Δ ticks, the parties have heard all there is.
-pub heard_all : (p : Swap) (r s : Run) (ws left : List Waiting) → Inv p r → Rested p r → Delivered p (ticked r) s left → AllByRecursion (Fresh (suc r.tick) p.delta) left → Heard p s
+pub heard_all : (p : Swap) (r s : Run) (ws left : List Waiting) → Inv p r → Rested p r → Delivered p (ticked r) s left
+    → All (Fresh (suc r.tick) p.delta) left → Heard p s
 heard_all p r s ws left i k d soon =
     let lines : s.line ≡ r.line = d.line in
     let count : s.count ≡ r.count = d.count in
@@ -247,7 +244,8 @@ heard_all p r s ws left i k d soon =
     (h.0, omega (arith, h.1, count), ap (λ g. (g h.0).filer) lines ∙ h.2, ap (λ g. (g h.0).transaction) lines ∙ h.3) in
     record {
       fresh = λ n h e.
-          let w = all_times (λ w. (suc r.tick < w.tick + p.delta) × Known s.count s.line w) n left (all_both (λ w. suc r.tick < w.tick + p.delta) (Known s.count s.line) left soon d.queue.known)
+          let w = all_times (λ w. (suc r.tick < w.tick + p.delta) × Known s.count s.line w) n left
+          (λ k d' h'. (soon k d' h', d.queue.known k d' h'))
           (waits_taken d.queue n h e) in
           let a : (s.line n).filed ≡ w.0.tick = ap (λ m. (s.line m).filed) (sym w.1) ∙ w.2.1.2 in
           let b = w.2.0 in
@@ -261,10 +259,6 @@ heard_all p r s ws left i k d soon =
       opened = λ v j c l b. has v _ ((k.done v c).opened j l (sym (ap (λ g. g v) d.begun) ∙ b));
       passed = λ v lock j route c l e. has v _ ((k.done v c).passed lock j route l (sym (ap (λ g. g v lock) d.signed) ∙ e));
     }
-  where
-    all_both : (P Q : Waiting → Type 0) (ws : List Waiting) → AllByRecursion P ws → AllByRecursion Q ws → AllByRecursion (λ w. P w × Q w) ws
-    all_both P Q [] a b = tt
-    all_both P Q (w ∷ ws) a b = ((a.0, b.0), all_both P Q ws a.1 b.1)
 
 pub steps_then : {p : Swap} {r s t : Run} → Steps p r s → Steps p s t → Steps p r t
 steps_then a (stop r) = a
@@ -281,12 +275,14 @@ pub quiet_inv : (p : Swap) (r : Run) (ws : List Waiting) → Quiet p r ws → In
 quiet_inv p r ws k = inv_steps p k.sound (fresh p) r (inv_fresh p k.sound) k.steps
 
 -- an outsider's filing
-pub submitted : (p : Swap) (r : Run) (ws after : List Waiting) (v : ℕ) (x : Transaction) → p.outsider v ≡ true → outsiders p r < outsider_lines → proper p x ≡ true
+pub submitted : (p : Swap) (r : Run) (ws after : List Waiting) (v : ℕ) (x : Transaction) → p.outsider v ≡ true
+    → outsiders p r < outsider_lines → proper p x ≡ true
     → (a : Added (file v x r) r.count (suc r.count) ws after) → Quiet p r ws → Quiet p (file v x r) after × NoneRefused a
 submitted p r ws after v x o few ok a k =
     let f = frame_file v x r in
     let y = file v x r in
-    let q = queue_filed r y r.count ws after refl f.longer a k.queue (journal_room p k.sound y (inv_step p k.sound r y (quiet_inv p r ws k) (outside r v x o few ok))) in (
+    let q = queue_filed r y r.count ws after refl f.longer a k.queue
+    (journal_room p k.sound y (inv_step p k.sound r y (quiet_inv p r ws k) (outside r v x o few ok))) in (
       record {
         sound = k.sound;
         steps = then k.steps (outside r v x o few ok);
@@ -318,13 +314,15 @@ taken_up p s after u =
     (record { sound = u.sound; steps = steps; rested = subst (Rested p) e d.rested; queue = q.0 }, q.1)
 
 -- a tick
-pub tick_done : (p : Swap) (r s : Run) (ws after : List Waiting) → (t : Ticked p r ws s after) → Quiet p r ws → Quiet p s after × NoneRefused t.waits
+pub tick_done : (p : Swap) (r s : Run) (ws after : List Waiting) → (t : Ticked p r ws s after) → Quiet p r ws
+    → Quiet p s after × NoneRefused t.waits
 tick_done p r s ws after t k =
     let i = quiet_inv p r ws k in
     let heard = handled p t.handed (ticked r) in
     let d = delivered p (ticked r) t.drained k.queue (λ n h. let b = i.lines.before n h in omega arith) in
     let a : Steps p (fresh p) heard = steps_then (then k.steps (ticks r k.rested)) d.steps in
-    let w = turned p k.sound heard (inv_steps p k.sound (fresh p) heard (inv_fresh p k.sound) a) (heard_all p r heard ws t.left i k.rested d t.fresh) in
+    let w = turned p k.sound heard (inv_steps p k.sound (fresh p) heard (inv_fresh p k.sound) a)
+    (heard_all p r heard ws t.left i k.rested d t.fresh) in
     let e = sym t.filed in
     let steps = steps_then a (subst (Steps p heard) e w.steps) in
     let q = queue_filed heard s r.count t.left after d.count (subst (Longer heard) e w.longer) t.waits d.queue

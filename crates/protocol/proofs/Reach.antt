@@ -21,11 +21,12 @@ Lasting (running p r ws) = Quiet p r ws
 
 -- what is not refused fails the test
 not_refused : (b : Bool) (fault : Fault) (o : Option Fault) → refuse b fault o ≡ None → (b ≡ false) × (o ≡ None)
-not_refused true fault o e = let z : ◌≡◌ {A = ℕ} 0 1 = cc in absurd (omega arith)
+not_refused true fault o e = grind arith
 not_refused false fault o e = (refl, e)
 
 -- an outsider's filing that is not refused
-pub filed : (p : Swap) (r : Run) (ws left : List Waiting) (v : ℕ) (x : Transaction) → Quiet p r ws → refusal (running p r ws) (submit v x) ≡ None
+pub filed : (p : Swap) (r : Run) (ws left : List Waiting) (v : ℕ) (x : Transaction) → Quiet p r ws
+    → refusal (running p r ws) (submit v x) ≡ None
     → (a : Added (enter v x r) r.count (enter v x r).count ws left) → Quiet p (enter v x r) left × NoneRefused a
 filed p r ws left v x k e =
     let e1 = not_refused (over p r) _ _ e in
@@ -36,7 +37,8 @@ filed p r ws left v x k e =
     let few = leb-false _ _ e3.0 in
     let ok = not-false _ e4.0 in
     let room = journal_room p k.sound (file v x r) (inv_step p k.sound r (file v x r) (quiet_inv p r ws k) (outside r v x o few ok)) in
-    subst (λ y. (a : Added y r.count y.count ws left) → Quiet p y left × NoneRefused a) (sym (entered v x r room)) (λ a. submitted p r ws left v x o few ok a k)
+    subst (λ y. (a : Added y r.count y.count ws left) → Quiet p y left × NoneRefused a) (sym (entered v x r room))
+    (λ a. submitted p r ws left v x o few ok a k)
 
 -- an effect keeps it
 effect_lasts : (s : State) (c : Call) (a : Answer) (s' : State) → Lasting s → refusal s c ≡ None → Effect s c a s' → Lasting s'
@@ -60,7 +62,8 @@ reached_lasts (new stock ws) = tt
 reached_lasts (after {s} {s'} c a r h) = call_lasts s c a s' (reached_lasts r) h
 
 -- a call has one answer
-effect_single : (s s' s'' : State) (c : Call) (a b : Answer) → Effect s c a s' → Effect s c b s'' → (a ≡ b) × (Timeless c → bare s' ≡ bare s'')
+effect_single : (s s' s'' : State) (c : Call) (a b : Answer) → Effect s c a s' → Effect s c b s''
+    → (a ≡ b) × (Timeless c → bare s' ≡ bare s'')
 effect_single (idle stock ws) s' s'' (load (Ok p)) a b h k =
     (h.3 ∙ sym k.3, λ _. ap bare h.4 ∙ ap (λ r. running p r []) (h.2.filed ∙ sym k.2.filed) ∙ sym (ap bare k.4))
 effect_single (idle stock ws) s' s'' (load (Err fault)) a b h k = absurd h

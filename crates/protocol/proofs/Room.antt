@@ -57,7 +57,8 @@ pigeons n m c code low apart =
     once : (q j k : ℕ) → j < k → k < n → (hit q j ≡ 0) ⊎ (hit q k ≡ 0)
     once q j k l h = go (c j && eqb (code j) q) refl (c k && eqb (code k) q) refl
       where
-        go : (x : Bool) → (c j && eqb (code j) q) ≡ x → (y : Bool) → (c k && eqb (code k) q) ≡ y → (◌≡◌ {A = ℕ} (cond x 1 0) 0) ⊎ (◌≡◌ {A = ℕ} (cond y 1 0) 0)
+        go : (x : Bool) → (c j && eqb (code j) q) ≡ x → (y : Bool) → (c k && eqb (code k) q) ≡ y
+            → (◌≡◌ {A = ℕ} (cond x 1 0) 0) ⊎ (◌≡◌ {A = ℕ} (cond y 1 0) 0)
         go true d true f =
             let a = and_parts (c j) (eqb (code j) q) d in
             let b = and_parts (c k) (eqb (code k) q) f in

@@ -10,7 +10,7 @@ last_mem x [] = or_left (eqb x x) false (eq-eqb x x refl)
 last_mem x (y ∷ r) = or_right (eqb (last y r) x) (mem (last y r) (y ∷ r)) (last_mem y r)
 
 pub mem_one : (w x : ℕ) → mem w (x ∷ []) ≡ true → w ≡ x
-mem_one w x m = ⊎_elim (λ e. eqb-true w x e) (λ f. let z : ◌≡◌ {A = ℕ} 0 1 = cc in absurd (omega arith)) (or_cases (eqb w x) false m)
+mem_one w x m = ⊎_elim (λ e. eqb-true w x e) (λ f. grind arith) (or_cases (eqb w x) false m)
 
 module _ (R : ℕ → ℕ → Type 0) where
   -- the part of a joined route up to one of its parties
@@ -22,7 +22,8 @@ module _ (R : ℕ → ℕ → Type 0) where
 
   pub front_more : (u x y : ℕ) (r : List ℕ) → R x y → mem x (y ∷ r) ≡ false → Front u y r → Front u x (y ∷ r)
   front_more u x y r a m t =
-      let d : mem x (y ∷ t.0) ≡ false = ⊎_elim (λ h. absurd (clash (mem x (y ∷ r)) (t.3 x h) m)) (λ h. h) (cases_Bool (mem x (y ∷ t.0))) in (
+      let d : mem x (y ∷ t.0) ≡ false = ⊎_elim (λ h. absurd (clash (mem x (y ∷ r)) (t.3 x h) m)) (λ h. h) (cases_Bool (mem x (y ∷ t.0)))
+      in (
         y ∷ t.0,
         (a, d, t.1),
         t.2,
@@ -55,7 +56,8 @@ Unled p r = (w : ℕ) → mem w r ≡ true → p.leader w ≡ false
 module _ (p : Swap) (s : Sound p) where
   -- every party is paid
   pub entered : (v : ℕ) → v < p.parties → (u : ℕ) × Pays p u v
-  entered v h = ⊎_elim (λ e. from 1 (omega (arith, s.few)) (omega arith)) (λ e. from 0 (omega (arith, s.few)) (λ z. e (sym z))) (cases_eq v 0)
+  entered v h =
+      ⊎_elim (λ e. from 1 (omega (arith, s.few)) (omega arith)) (λ e. from 0 (omega (arith, s.few)) (λ z. e (sym z))) (cases_eq v 0)
     where
       from : (x : ℕ) → x < p.parties → (x ≡ v → ⊥) → (u : ℕ) × Pays p u v
       from x b d = let t = s.connected x v b h in reached (Pays p) x v t.by d t.route t.ends
@@ -79,7 +81,8 @@ behind_unled p (alone h) = h
 behind_unled p (after w a h) = h
 
 -- with someone who pays the first of them they are a route
-pub behind_short : (p : Swap) → Sound p → {k v : ℕ} → Behind p k v → (r : List ℕ) → v < p.parties → Joined (Pays p) (v ∷ r) → Unled p (v ∷ r) → k + length r + 2 ≤ p.span
+pub behind_short : (p : Swap) → Sound p → {k v : ℕ} → Behind p k v → (r : List ℕ) → v < p.parties → Joined (Pays p) (v ∷ r)
+    → Unled p (v ∷ r) → k + length r + 2 ≤ p.span
 behind_short p s (alone {v} h) r b j n =
     let t = entered p s v b in
     let m = s.spanned.most (t.0 ∷ (v ∷ r)) (t.1, unled p s t.0 v r j n t.1, j) in

@@ -17,7 +17,8 @@ use Rattle.swap.specs.Limits.{max_lines}
 use Rattle.swap.specs.Swaps.{Swap, Sound}
 
 -- what holds at first and is carried on by each turn holds at the end
-pub each_ind : {X : Type 0} (P : ℕ → X → Type 0) (f : ℕ → X → X) (x : X) (n : ℕ) → P 0 x → ((k : ℕ) (y : X) → k < n → P k y → P (suc k) (f k y)) → P n (each n f x)
+pub each_ind : {X : Type 0} (P : ℕ → X → Type 0) (f : ℕ → X → X) (x : X) (n : ℕ) → P 0 x
+    → ((k : ℕ) (y : X) → k < n → P k y → P (suc k) (f k y)) → P n (each n f x)
 unfolding each
 each_ind P f x zero start step = start
 each_ind P f x (suc n) start step = step n (each n f x) (omega arith) (each_ind P f x n start (λ k y h. step k y (omega arith)))
@@ -56,7 +57,8 @@ pub record Frame (v : ℕ) (r s : Run) : Type 0 where
   pub longer : Longer r s
   pub begun : (u : ℕ) → r.begun u ≡ true → s.begun u ≡ true
   pub signed : (u lock : ℕ) (q : List ℕ) → r.signed u lock ≡ Some q → s.signed u lock ≡ Some q
-  pub others : (u : ℕ) → (u ≡ v → ⊥) → (s.begun u ≡ r.begun u) × ((lock : ℕ) → s.signed u lock ≡ r.signed u lock) × ((x : Transaction) → NoLine r u x → NoLine s u x)
+  pub others : (u : ℕ) → (u ≡ v → ⊥) → (s.begun u ≡ r.begun u) × ((lock : ℕ) → s.signed u lock ≡ r.signed u lock)
+      × ((x : Transaction) → NoLine r u x → NoLine s u x)
 
 pub same_longer : (r : Run) → Longer r r
 same_longer r = record { count = omega arith; old = λ n h. (refl, refl); new = λ n h k. absurd (omega arith) }
@@ -112,7 +114,7 @@ frame_sign v lock route r e = record {
   begun = λ u b. b;
   signed = λ u l q b. put_case (λ f. f l ≡ Some q) r.signed v (put (r.signed v) lock (Some route)) u
       (λ d. put_case (λ o. o ≡ Some q) (r.signed v) lock (Some route) l
-      (λ c. let z : ◌≡◌ {A = ℕ} 0 1 = cc in absurd (omega arith))
+      (λ c. grind arith)
       (λ _. rw d at b))
       (λ _. b);
   others = λ u d. (refl, λ l. ap (λ f. f l) (put_other r.signed v (put (r.signed v) lock (Some route)) u d), λ x n. n);
@@ -144,25 +146,29 @@ pub record Heard (p : Swap) (r : Run) : Type 0 where
   pub fresh : (n : ℕ) → n < r.count → r.verdict n ≡ pending → r.tick < (r.line n).filed + p.delta
   pub before : (n : ℕ) → n < r.count → (r.line n).filed < r.tick
   pub opened : (v i : ℕ) → conforming p v ≡ true → Leaving p v i → r.begun v ≡ true → HasLine r v (Open i (p.asset i) p.leader)
-  pub passed : (v lock i : ℕ) (route : List ℕ) → conforming p v ≡ true → Entering p v i → r.signed v lock ≡ Some route → HasLine r v (Key i route)
+  pub passed : (v lock i : ℕ) (route : List ℕ) → conforming p v ≡ true → Entering p v i → r.signed v lock ≡ Some route
+      → HasLine r v (Key i route)
 
 -- what lines of a conforming party tell
-open_begun : (p : Swap) (escrow : ℕ → Escrow) (σ : Signed) (begun : ℕ → Bool) (v f n i : ℕ) (x : Transaction) → LineFact p escrow σ begun v f n x → purpose x ≡ Purpose.opens i → begun v ≡ true
+open_begun : (p : Swap) (escrow : ℕ → Escrow) (σ : Signed) (begun : ℕ → Bool) (v f n i : ℕ) (x : Transaction)
+    → LineFact p escrow σ begun v f n x → purpose x ≡ Purpose.opens i → begun v ≡ true
 open_begun p escrow σ begun v f n i (Open k asset locks) l e = l.begins
-open_begun p escrow σ begun v f n i (Key k q) l e = let z : ◌≡◌ {A = ℕ} 0 1 = cc in absurd (omega arith)
-open_begun p escrow σ begun v f n i (Refund k) l e = let z : ◌≡◌ {A = ℕ} 0 1 = cc in absurd (omega arith)
+open_begun p escrow σ begun v f n i (Key k q) l e = grind arith
+open_begun p escrow σ begun v f n i (Refund k) l e = grind arith
 
-key_signed : (p : Swap) (escrow : ℕ → Escrow) (σ : Signed) (begun : ℕ → Bool) (v f n i lock : ℕ) (x : Transaction) → LineFact p escrow σ begun v f n x → purpose x ≡ Purpose.keys i lock → σ v lock ≡ None → ⊥
-key_signed p escrow σ begun v f n i lock (Open k asset locks) l e d = let z : ◌≡◌ {A = ℕ} 0 1 = cc in omega arith
+key_signed : (p : Swap) (escrow : ℕ → Escrow) (σ : Signed) (begun : ℕ → Bool) (v f n i lock : ℕ) (x : Transaction)
+    → LineFact p escrow σ begun v f n x → purpose x ≡ Purpose.keys i lock → σ v lock ≡ None → ⊥
+key_signed p escrow σ begun v f n i lock (Open k asset locks) l e d = grind arith
 key_signed p escrow σ begun v f n i lock (Key k q) l e d =
     let a : ends q ≡ lock = cc in
     let b : σ v lock ≡ Some q = rw a at l.signs in
-    let z : ◌≡◌ {A = ℕ} 0 1 = cc in omega arith
-key_signed p escrow σ begun v f n i lock (Refund k) l e d = let z : ◌≡◌ {A = ℕ} 0 1 = cc in omega arith
+    grind arith
+key_signed p escrow σ begun v f n i lock (Refund k) l e d = grind arith
 
-refund_due : (p : Swap) (escrow : ℕ → Escrow) (σ : Signed) (begun : ℕ → Bool) (v f n i : ℕ) (x : Transaction) → LineFact p escrow σ begun v f n x → purpose x ≡ Purpose.refunds i → f ≡ refund_tick p
-refund_due p escrow σ begun v f n i (Open k asset locks) l e = let z : ◌≡◌ {A = ℕ} 0 1 = cc in absurd (omega arith)
-refund_due p escrow σ begun v f n i (Key k q) l e = let z : ◌≡◌ {A = ℕ} 0 1 = cc in absurd (omega arith)
+refund_due : (p : Swap) (escrow : ℕ → Escrow) (σ : Signed) (begun : ℕ → Bool) (v f n i : ℕ) (x : Transaction)
+    → LineFact p escrow σ begun v f n x → purpose x ≡ Purpose.refunds i → f ≡ refund_tick p
+refund_due p escrow σ begun v f n i (Open k asset locks) l e = grind arith
+refund_due p escrow σ begun v f n i (Key k q) l e = grind arith
 refund_due p escrow σ begun v f n i (Refund k) l e = l.due
 
 -- a line of a conforming party, under its own name
@@ -172,17 +178,21 @@ line_fact p r k v c n h e =
     subst (λ u. LineFact p r.escrow r.signed r.begun u (r.line n).filed (r.verdict n) (r.line n).transaction) e
     (k.lines.facts n h (rw e c))
 
-no_open : (p : Swap) (r : Run) → Inv p r → (v i asset : ℕ) (locks : ℕ → Bool) → conforming p v ≡ true → r.begun v ≡ false → NoLine r v (Open i asset locks)
+no_open : (p : Swap) (r : Run) → Inv p r → (v i asset : ℕ) (locks : ℕ → Bool) → conforming p v ≡ true → r.begun v ≡ false
+    → NoLine r v (Open i asset locks)
 no_open p r k v i asset locks c b n h e d =
-    both_ways (r.begun v) b (open_begun p r.escrow r.signed r.begun v (r.line n).filed (r.verdict n) i (r.line n).transaction (line_fact p r k v c n h e) d)
+    both_ways (r.begun v) b (open_begun p r.escrow r.signed r.begun v (r.line n).filed (r.verdict n) i (r.line n).transaction
+    (line_fact p r k v c n h e) d)
 
 no_key : (p : Swap) (r : Run) → Inv p r → (v i : ℕ) (q : List ℕ) → conforming p v ≡ true → r.signed v (ends q) ≡ None → NoLine r v (Key i q)
 no_key p r k v i q c b n h e d =
-    key_signed p r.escrow r.signed r.begun v (r.line n).filed (r.verdict n) i (ends q) (r.line n).transaction (line_fact p r k v c n h e) d b
+    key_signed p r.escrow r.signed r.begun v (r.line n).filed (r.verdict n) i (ends q) (r.line n).transaction
+    (line_fact p r k v c n h e) d b
 
 no_refund : (p : Swap) (r : Run) → Inv p r → Heard p r → (v i : ℕ) → conforming p v ≡ true → r.tick ≡ refund_tick p → NoLine r v (Refund i)
 no_refund p r k w v i c t n h e d =
-    let f = refund_due p r.escrow r.signed r.begun v (r.line n).filed (r.verdict n) i (r.line n).transaction (line_fact p r k v c n h e) d in
+    let f = refund_due p r.escrow r.signed r.begun v (r.line n).filed (r.verdict n) i (r.line n).transaction
+    (line_fact p r k v c n h e) d in
     let g = w.before n h in
     let a : (r.line n).filed ≡ r.tick = f ∙ sym t in
     omega (arith, a, g)
@@ -201,7 +211,8 @@ module _ (p : Swap) (v : ℕ) where
   -- one small step of party v
   pub data Act (r : Run) : Run → Type 0 where
     began : r.begun v ≡ false → MayBegin p r v (p.leader v) → Act r (begin v r)
-    signed : (lock : ℕ) (route : List ℕ) → entering_stand p r.escrow v ≡ true → r.signed v lock ≡ None → MaySign p r v lock route → Act r (sign v lock route r)
+    signed : (lock : ℕ) (route : List ℕ) → entering_stand p r.escrow v ≡ true → r.signed v lock ≡ None → MaySign p r v lock route
+        → Act r (sign v lock route r)
     filed : (x : Transaction) → MayFile p r v x → NoLine r v x → Act r (file v x r)
 
   pub data Acts (r : Run) : Run → Type 0 where
@@ -244,7 +255,8 @@ module _ (p : Swap) (v : ℕ) where
     has : (i : ℕ) → i < k → test i ≡ true → HasLine s v (x i)
     none : (y : Transaction) → ((i : ℕ) → i < k → purpose (x i) ≡ purpose y → ⊥) → NoLine r v y → NoLine s v y
 
-  filed_more : (x : ℕ → Transaction) (test : ℕ → Bool) (r : Run) (k : ℕ) (s : Run) → MayFile p s v (x k) → NoLine s v (x k) → Filed x test r k s → Filed x test r (suc k) (file v (x k) s)
+  filed_more : (x : ℕ → Transaction) (test : ℕ → Bool) (r : Run) (k : ℕ) (s : Run) → MayFile p s v (x k) → NoLine s v (x k)
+      → Filed x test r k s → Filed x test r (suc k) (file v (x k) s)
   filed_more x test r k s m n f = record {
     acts = acted f.acts (filed (x k) m n);
     begun = f.begun;
@@ -259,7 +271,8 @@ module _ (p : Swap) (v : ℕ) where
         (λ d. f.none y (λ i l. apart i (omega arith)) none n (omega arith));
   }
 
-  filed_pass : (x : ℕ → Transaction) (test : ℕ → Bool) (r : Run) (k : ℕ) (s : Run) → test k ≡ false → Filed x test r k s → Filed x test r (suc k) s
+  filed_pass : (x : ℕ → Transaction) (test : ℕ → Bool) (r : Run) (k : ℕ) (s : Run) → test k ≡ false → Filed x test r k s
+      → Filed x test r (suc k) s
   filed_pass x test r k s t f = record {
     acts = f.acts;
     begun = f.begun;
@@ -273,7 +286,8 @@ module _ (p : Swap) (v : ℕ) where
       → ((k : ℕ) (s : Run) → s.escrow ≡ r.escrow → f k s ≡ cond (test k) (enter v (x k) s) s)
       → ((s : Run) (y : Transaction) → Acts r s → MayFile p s v y → NoLine s v y → s.count < max_lines)
       → ((i k : ℕ) → purpose (x i) ≡ purpose (x k) → i ≡ k)
-      → ((k : ℕ) → k < n → test k ≡ true → (s : Run) → s.tick ≡ r.tick → s.escrow ≡ r.escrow → s.begun ≡ r.begun → s.signed ≡ r.signed → MayFile p s v (x k))
+      → ((k : ℕ) → k < n → test k ≡ true → (s : Run) → s.tick ≡ r.tick → s.escrow ≡ r.escrow → s.begun ≡ r.begun → s.signed ≡ r.signed
+      → MayFile p s v (x k))
       → ((k : ℕ) → NoLine r v (x k))
       → Filed x test r n (each n f r)
   filing x test f r n same room apart may none = each_ind (Filed x test r) f r n
@@ -314,7 +328,7 @@ module _ (p : Swap) (v : ℕ) where
       where
         go : (o : Option (List ℕ)) → r.signed w lock ≡ o → o ≡ None
         go None d = refl
-        go (Some q) d = let g = f.signed w lock q d in let z : ◌≡◌ {A = ℕ} 0 1 = cc in absurd (omega arith)
+        go (Some q) d = let g = f.signed w lock q d in grind arith
 
     unbegun_before : (w : ℕ) → s.begun w ≡ false → r.begun w ≡ false
     unbegun_before w e = go (r.begun w) refl
@@ -336,7 +350,8 @@ module _ (p : Swap) (v : ℕ) where
     reveals_on h l e n = h l (stand_before v e) (none_before v v n)
 
     relays_on : (lock : ℕ) → Relays r lock → Relays s lock
-    relays_on lock h j route d e l o n = h j route d (stand_before v e) l (sym (ap (λ g. (g j).opened lock) f.escrow) ∙ o) (none_before v lock n)
+    relays_on lock h j route d e l o n =
+        h j route d (stand_before v e) l (sym (ap (λ g. (g j).opened lock) f.escrow) ∙ o) (none_before v lock n)
 
     refunds_on : Refunds r → Refunds s
     refunds_on h i l t e = longer_has f.longer v (Refund i) (h i l (sym f.tick ∙ t) (sym (ap (λ g. (g i).phase) f.escrow) ∙ e))
@@ -349,7 +364,8 @@ module _ (p : Swap) (v : ℕ) where
     room_next : {r : Run} → Inv p r → (s : Run) (x : Transaction) → Acts r s → MayFile p s v x → NoLine s v x → s.count < max_lines
     room_next k s x a m n = journal_room p sound (file v x s) (inv_step p sound s (file v x s) (acts_inv k a) (files s v x c m n))
 
-    open_block : (r : Run) → Inv p r → Clear r → r.begun v ≡ false → MayBegin p r v (p.leader v) → Block r (open_legs p v r) × ((open_legs p v r).begun v ≡ true)
+    open_block : (r : Run) → Inv p r → Clear r → r.begun v ≡ false → MayBegin p r v (p.leader v)
+        → Block r (open_legs p v r) × ((open_legs p v r).begun v ≡ true)
     unfolding open_legs
     open_block r k q b m =
         let x : ℕ → Transaction = λ i. Open i (p.asset i) p.leader in
@@ -366,14 +382,17 @@ module _ (p : Swap) (v : ℕ) where
             acts = a;
             clear = record {
               opened = λ i l _. d.has i l.0 (eq-eqb (p.payer i) v l.1);
-              passed = λ lock i route l e. longer_has w.longer v (Key i route) (q.passed lock i route l (sym (ap (λ g. g v lock) d.signed) ∙ e));
-              unrefunded = λ i t. d.none (Refund i) (λ j h e. let z : ◌≡◌ {A = ℕ} 0 1 = cc in omega arith) (q.unrefunded i (sym w.tick ∙ t));
+              passed =
+                  λ lock i route l e. longer_has w.longer v (Key i route) (q.passed lock i route l (sym (ap (λ g. g v lock) d.signed) ∙ e));
+              unrefunded =
+                  λ i t. d.none (Refund i) (λ j h e. grind arith) (q.unrefunded i (sym w.tick ∙ t));
             };
           },
           ap (λ g. g v) d.begun ∙ yes',
         )
 
-    pass_block : (r : Run) → Inv p r → Clear r → (lock : ℕ) (route : List ℕ) → entering_stand p r.escrow v ≡ true → r.signed v lock ≡ None → MaySign p r v lock route
+    pass_block : (r : Run) → Inv p r → Clear r → (lock : ℕ) (route : List ℕ) → entering_stand p r.escrow v ≡ true → r.signed v lock ≡ None
+        → MaySign p r v lock route
         → ends route ≡ lock → Block r (pass_key p v lock route r) × ((pass_key p v lock route r).signed v lock ≡ Some route)
     unfolding pass_key
     pass_block r k q lock route st n m en =
@@ -383,7 +402,8 @@ module _ (p : Swap) (v : ℕ) where
         let row : s.signed v ≡ put (r.signed v) lock (Some route) = put_same r.signed v (put (r.signed v) lock (Some route)) v refl in
         let yes' : s.signed v lock ≡ Some route = ap (λ g. g lock) row ∙ put_same (r.signed v) lock (Some route) lock refl in
         let d : Filed x (λ i. eqb (p.receiver i) v) s p.legs (each p.legs f s) =
-        filing x (λ i. eqb (p.receiver i) v) f s p.legs (λ i t _. refl) (room_next (acts_inv k (acted still (signed lock route st n m)))) (λ i j e. cc)
+        filing x (λ i. eqb (p.receiver i) v) f s p.legs (λ i t _. refl) (room_next (acts_inv k (acted still (signed lock route st n m))))
+        (λ i j e. cc)
         (λ i h e t _ _ _ g. key (h, eqb-true (p.receiver i) v e) (ap (λ w. w v (ends route)) g ∙ ap (s.signed v) en ∙ yes'))
         (λ i. no_key p r k v i route c (ap (r.signed v) en ∙ n)) in
         let a : Acts r (each p.legs f s) = acts_then (acted still (signed lock route st n m)) d.acts in
@@ -393,17 +413,21 @@ module _ (p : Swap) (v : ℕ) where
             clear = record {
               opened = λ i l e. longer_has w.longer v (Open i (p.asset i) p.leader) (q.opened i l (sym (ap (λ g. g v) d.begun) ∙ e));
               passed = λ l i rt en' e.
-                  let here : put (r.signed v) lock (Some route) l ≡ Some rt = sym (ap (λ g. g l) row) ∙ sym (ap (λ g. g v l) d.signed) ∙ e in
+                  let here : put (r.signed v) lock (Some route) l ≡ Some rt =
+                  sym (ap (λ g. g l) row) ∙ sym (ap (λ g. g v l) d.signed) ∙ e in
                   put_case (λ o. o ≡ Some rt → HasLine (each p.legs f s) v (Key i rt)) (r.signed v) lock (Some route) l
-                  (λ _ o. let z : route ≡ rt = cc in subst (λ y. HasLine (each p.legs f s) v (Key i y)) z (d.has i en'.0 (eq-eqb (p.receiver i) v en'.1)))
+                  (λ _ o. let z : route ≡ rt = cc in subst (λ y. HasLine (each p.legs f s) v (Key i y)) z
+                  (d.has i en'.0 (eq-eqb (p.receiver i) v en'.1)))
                   (λ _ o. longer_has w.longer v (Key i rt) (q.passed l i rt en' o)) here;
-              unrefunded = λ i t. d.none (Refund i) (λ j h e. let z : ◌≡◌ {A = ℕ} 0 1 = cc in omega arith) (q.unrefunded i (sym w.tick ∙ t));
+              unrefunded =
+                  λ i t. d.none (Refund i) (λ j h e. grind arith) (q.unrefunded i (sym w.tick ∙ t));
             };
           },
           ap (λ g. g v lock) d.signed ∙ yes',
         )
 
-    refund_block : (r : Run) → Inv p r → Clear r → r.tick ≡ refund_tick p → Filed (λ i. Refund i) (λ i. eqb (p.payer i) v && is_held (r.escrow i).phase) r p.legs (refund_legs p v r)
+    refund_block : (r : Run) → Inv p r → Clear r → r.tick ≡ refund_tick p
+        → Filed (λ i. Refund i) (λ i. eqb (p.payer i) v && is_held (r.escrow i).phase) r p.legs (refund_legs p v r)
     unfolding refund_legs
     refund_block r k q t =
         filing (λ i. Refund i) (λ i. eqb (p.payer i) v && is_held (r.escrow i).phase)
@@ -416,13 +440,17 @@ module _ (p : Swap) (v : ℕ) where
         (λ i. q.unrefunded i t)
 
     -- 1, 2
-    may_begin : (r : Run) (l : Bool) → cond l (eqb r.tick 0) (entering_stand p r.escrow v && leb (r.tick + p.delta) (open_end p)) ≡ true → MayBegin p r v l
+    may_begin : (r : Run) (l : Bool) → cond l (eqb r.tick 0) (entering_stand p r.escrow v && leb (r.tick + p.delta) (open_end p)) ≡ true
+        → MayBegin p r v l
     may_begin r true e = eqb-true r.tick 0 e
-    may_begin r false e = let a = and_parts (entering_stand p r.escrow v) (leb (r.tick + p.delta) (open_end p)) e in (a.0, leb-true (r.tick + p.delta) (open_end p) a.1)
+    may_begin r false e = let a = and_parts (entering_stand p r.escrow v) (leb (r.tick + p.delta) (open_end p)) e
+        in (a.0, leb-true (r.tick + p.delta) (open_end p) a.1)
 
-    begin_may : (r : Run) (l : Bool) → MayBegin p r v l → cond l (eqb r.tick 0) (entering_stand p r.escrow v && leb (r.tick + p.delta) (open_end p)) ≡ true
+    begin_may : (r : Run) (l : Bool) → MayBegin p r v l
+        → cond l (eqb r.tick 0) (entering_stand p r.escrow v && leb (r.tick + p.delta) (open_end p)) ≡ true
     begin_may r true e = eq-eqb r.tick 0 e
-    begin_may r false e = and_from (entering_stand p r.escrow v) (leb (r.tick + p.delta) (open_end p)) e.0 (le-leb (r.tick + p.delta) (open_end p) e.1)
+    begin_may r false e =
+        and_from (entering_stand p r.escrow v) (leb (r.tick + p.delta) (open_end p)) e.0 (le-leb (r.tick + p.delta) (open_end p) e.1)
 
     -- a rule that does not apply leaves nothing to do
     opens_not : (r : Run) → opens p v r ≡ false → r.begun v ≡ false → MayBegin p r v (p.leader v) → ⊥
@@ -452,7 +480,7 @@ module _ (p : Swap) (v : ℕ) where
     revealing_rule r k q = cond_both (reveals p v r) (pass_key p v v (v ∷ []) r) r (Revealed r)
         (λ e. let a = and_parts _ _ e in let b = and_parts _ _ a.0 in
         let d = pass_block r k q v (v ∷ []) b.1 (none_of (r.signed v v) (not-true _ a.1)) (own b.0) refl in
-        (d.0, λ _ _ n. let g = d.1 in let z : ◌≡◌ {A = ℕ} 0 1 = cc in omega arith))
+        (d.0, λ _ _ n. let g = d.1 in grind arith))
         (λ e. (
           record { acts = still; clear = q },
           λ l st n. both_ways (reveals p v r) e (and_from _ _ (and_from _ _ l st) (rw n refl)),
@@ -461,7 +489,7 @@ module _ (p : Swap) (v : ℕ) where
     -- 4
     shown_some : (b : Bool) (o : Option (List ℕ)) (q : List ℕ) → cond b o None ≡ Some q → (b ≡ true) × (o ≡ Some q)
     shown_some true o q e = (refl, e)
-    shown_some false o q e = let z : ◌≡◌ {A = ℕ} 0 1 = cc in absurd (omega arith)
+    shown_some false o q e = grind arith
 
     abbrev Relayed : Run → ℕ → Run → Type 0
     Relayed r lock s = Block r s × Relays s lock
@@ -472,7 +500,7 @@ module _ (p : Swap) (v : ℕ) where
       record { acts = still; clear = q },
       λ j route _ _ l o _. let a = h j l.0 in let b = eq-eqb (p.payer j) v l.1 in
           let g : (r.escrow j).opened lock ≡ None = rw b at a in
-          let z : ◌≡◌ {A = ℕ} 0 1 = cc in omega arith,
+          grind arith,
     )
     relayed_rule r k q lock e (Some route) h =
         let a = and_parts _ _ e in let b = and_parts _ _ a.0 in
@@ -483,15 +511,17 @@ module _ (p : Swap) (v : ℕ) where
         (other (eqb-false lock v (not-true _ b.0)) j (h.1, eqb-true (p.payer j) v y.0) y.1
         (λ i l m. let g = h.3 i l in rw (eq-eqb (p.payer i) v m) at g))
         (way_ends_front p w v) in
-        (d.0, λ _ _ _ _ _ _ n. let g = d.1 in let z : ◌≡◌ {A = ℕ} 0 1 = cc in omega arith)
+        (d.0, λ _ _ _ _ _ _ n. let g = d.1 in grind arith)
 
     relay_rule : (r : Run) → Inv p r → Clear r → (lock : ℕ) → Relayed r lock (relay p v lock r)
     unfolding relay shown
-    relay_rule r k q lock = cond_both (relays p v lock r) (relayed p v lock (lowest p.legs (λ i. cond (eqb (p.payer i) v) ((r.escrow i).opened lock) None)) r) r (Relayed r lock)
+    relay_rule r k q lock = cond_both (relays p v lock r)
+        (relayed p v lock (lowest p.legs (λ i. cond (eqb (p.payer i) v) ((r.escrow i).opened lock) None)) r) r (Relayed r lock)
         (λ e. relayed_rule r k q lock e _ (lowest_is p.legs (λ i. cond (eqb (p.payer i) v) ((r.escrow i).opened lock) None)))
         (λ e. (
           record { acts = still; clear = q },
-          λ j route d st l o n. both_ways (relays p v lock r) e (and_from _ _ (and_from _ _ (not_from_false _ (ne_eqb lock v d)) (rw n refl)) st),
+          λ j route d st l o n. both_ways (relays p v lock r) e
+              (and_from _ _ (and_from _ _ (not_from_false _ (ne_eqb lock v d)) (rw n refl)) st),
         ))
 
     relaying_rule : (r : Run) → Inv p r → Clear r → Block r (relaying p v r) × ((lock : ℕ) → Relays (relaying p v r) lock)
@@ -515,7 +545,9 @@ module _ (p : Swap) (v : ℕ) where
         )
 
     -- 5
-    refunding_rule : (r : Run) → Inv p r → Clear r → Acts r (refunding p v r) × ((refunding p v r).begun v ≡ r.begun v) × ((lock : ℕ) → (refunding p v r).signed v lock ≡ r.signed v lock) × Refunds (refunding p v r)
+    refunding_rule : (r : Run) → Inv p r → Clear r
+        → Acts r (refunding p v r) × ((refunding p v r).begun v ≡ r.begun v)
+        × ((lock : ℕ) → (refunding p v r).signed v lock ≡ r.signed v lock) × Refunds (refunding p v r)
     unfolding refunding
     refunding_rule r k q = cond_both (refunds p v r) (refund_legs p v r) r
         (λ s. Acts r s × (s.begun v ≡ r.begun v) × ((lock : ℕ) → s.signed v lock ≡ r.signed v lock) × Refunds s)
@@ -605,17 +637,19 @@ round_next p sound r i v s k = go (conforming p v) refl
           tick = f.tick ∙ k.tick;
           escrow = f.escrow ∙ k.escrow;
           longer = longer_then r s t k.longer f.longer f.tick;
-          done = λ u e l. ⊎_elim (λ q. subst (Done p t) (sym q) d.1) (λ q. done_other p u v s t f q (k.done u e (omega arith))) (cases_eq u v);
+          done =
+              λ u e l. ⊎_elim (λ q. subst (Done p t) (sym q) d.1) (λ q. done_other p u v s t f q (k.done u e (omega arith))) (cases_eq u v);
           clear = λ u e l. clear_other p u v s t f (omega arith) (k.clear u e (omega arith));
         }
-    go false c = subst (Round p r (suc v)) (sym (cond-false (conforming p v) (refunding p v (relaying p v (revealing p v (opening p v s)))) s c)) (record {
-      steps = k.steps;
-      tick = k.tick;
-      escrow = k.escrow;
-      longer = k.longer;
-      done = λ u e l. ⊎_elim (λ q. absurd (both_ways (conforming p v) c (rw q at e))) (λ q. k.done u e (omega arith)) (cases_eq u v);
-      clear = λ u e l. k.clear u e (omega arith);
-    })
+    go false c = subst (Round p r (suc v)) (sym (cond-false (conforming p v) (refunding p v (relaying p v (revealing p v
+        (opening p v s)))) s c)) (record {
+          steps = k.steps;
+          tick = k.tick;
+          escrow = k.escrow;
+          longer = k.longer;
+          done = λ u e l. ⊎_elim (λ q. absurd (both_ways (conforming p v) c (rw q at e))) (λ q. k.done u e (omega arith)) (cases_eq u v);
+          clear = λ u e l. k.clear u e (omega arith);
+        })
 
 -- the conforming parties have had their turns: small steps that add lines, after which the tick is done
 pub record Turned (p : Swap) (r s : Run) : Type 0 where
@@ -666,5 +700,5 @@ heard_fresh p = record {
   fresh = λ n h. absurd (omega arith);
   before = λ n h. absurd (omega arith);
   opened = λ v i c l b. absurd (true≢false (sym b));
-  passed = λ v lock i route c l e. let z : ◌≡◌ {A = ℕ} 0 1 = cc in absurd (omega arith);
+  passed = λ v lock i route c l e. grind arith;
 }

@@ -7,7 +7,7 @@ use Rattle.protocol.specs.State.{Vacant, Transaction, Open, Key, Refund, Run, St
 use Rattle.protocol.specs.Stocks.{Stock, entered}
 use Rattle.protocol.specs.Tables.{count_below}
 use Rattle.protocol.specs.Verdicts.{handle}
-use Rattle.std.specs.List.{AllByRecursion}
+use Rattle.std.specs.List.{All}
 use Rattle.swap.specs.Assets.{asset_on}
 use Rattle.swap.specs.Limits.{outsider_lines}
 use Rattle.swap.specs.Routes as routes
@@ -108,7 +108,7 @@ pub record Ticked (p : Swap) (r : Run) (ws : List Waiting) (s : Run) (after : Li
   pub handed : List Waiting
   pub left : List Waiting
   pub drained : Drained handed ws left
-  pub fresh : AllByRecursion (Fresh (suc r.tick) p.delta) left
+  pub fresh : All (Fresh (suc r.tick) p.delta) left
   pub filed : s ≡ turns p (handled p handed (ticked r))
   pub waits : Added s r.count s.count left after
 
@@ -120,14 +120,17 @@ pub record TakenUp (p : Swap) (s : Run) (after : List Waiting) : Type 0 where
 
 -- what a call that is not refused answers and leaves
 abbrev pub Effect : State → Call → Answer → State → Type 0
-Effect (idle stock ws) (load (Ok p)) a s = (run : Run) × (after : List Waiting) × TakenUp p run after × (a ≡ Ok 0) × (s ≡ running p run after)
+Effect (idle stock ws) (load (Ok p)) a s =
+    (run : Run) × (after : List Waiting) × TakenUp p run after × (a ≡ Ok 0) × (s ≡ running p run after)
 Effect (idle stock ws) (load (Err fault)) a s = ⊥
 Effect (idle stock ws) (submit v x) a s = ⊥
 Effect (idle stock ws) tick' a s = ⊥
 Effect (running p r ws) (load file) a s = ⊥
 Effect (running p r ws) (submit v x) a s =
-    (after : List Waiting) × Added (enter v x r) r.count (enter v x r).count ws after × (a ≡ Ok r.count) × (s ≡ running p (enter v x r) after)
-Effect (running p r ws) tick' a s = (run : Run) × (after : List Waiting) × Ticked p r ws run after × (a ≡ Ok (suc r.tick)) × (s ≡ running p run after)
+    (after : List Waiting) × Added (enter v x r) r.count (enter v x r).count ws after × (a ≡ Ok r.count)
+    × (s ≡ running p (enter v x r) after)
+Effect (running p r ws) tick' a s =
+    (run : Run) × (after : List Waiting) × Ticked p r ws run after × (a ≡ Ok (suc r.tick)) × (s ≡ running p run after)
 
 abbrev pub Settled : Option Fault → State → Call → Answer → State → Type 0
 Settled (Some fault) s c a s' = (a ≡ Err fault) × (s' ≡ s)

@@ -5,7 +5,7 @@ use Rattle.protocol.specs.Parties.{enter, turns}
 use Rattle.protocol.specs.State.{Phase, Transaction, Run, running}
 use Rattle.protocol.specs.Tables.{each}
 use Rattle.protocol.specs.Verdicts.{handle}
-use Rattle.std.specs.List.{AllByRecursion}
+use Rattle.std.specs.List.{All}
 use Rattle.swap.specs.Swaps.{Swap}
 use Rattle.swap.specs.declared.records.Waiting.{Waiting}
 
@@ -45,5 +45,5 @@ ends e = ticks_by e.ticks e.delivery e.swap (filings e.delivery e.swap e.filed (
 -- calls lead to the run, and its results are as told
 abbrev pub Comes : Example → Type 0
 Comes e = ((ws : List Waiting) × Reached (running e.swap (ends e) ws))
-    × AllByRecursion (λ l. (ends e).verdict l.0 ≡ l.1) e.lines
-    × AllByRecursion (λ l. (((ends e).escrow l.0).phase ≡ l.1) × (((ends e).escrow l.0).changed ≡ l.2)) e.legs
+    × All (λ l. (ends e).verdict l.0 ≡ l.1) e.lines
+    × All (λ l. (((ends e).escrow l.0).phase ≡ l.1) × (((ends e).escrow l.0).changed ≡ l.2)) e.legs

@@ -8,7 +8,7 @@ use Rattle.protocol.specs.State.{Held, Escrow, Transaction, Open, Run, State, ru
 use Rattle.protocol.specs.Steps.{Entering, Leaving, Rested, Steps}
 use Rattle.protocol.specs.Stocks.{entered}
 use Rattle.protocol.specs.Verdicts.{joined, proper_locks, judged, pending}
-use Rattle.std.specs.List.{AllByRecursion}
+use Rattle.std.specs.List.{All}
 use Rattle.swap.specs.Assets.{rules_of}
 use Rattle.swap.specs.Limits.{max_lines, max_parties, set_bits}
 use Rattle.swap.specs.Routes.{mem, distinct, Joined}
@@ -58,7 +58,8 @@ Single = (s s' s'' : State) (c : Call) (a b : Answer) → Answered s c a s' → 
 -- The tests of the rules say what they are named for.
 pub record Tests (p : Swap) : Type 0 where
   pub routes : (r : List ℕ) → Exactly (joined p r) (Joined (Pays p) r)
-  pub standing : (escrow : ℕ → Escrow) (v : ℕ) → Exactly (entering_stand p escrow v) ((i : ℕ) → Entering p v i → IsTrue (stands p i (escrow i)))
+  pub standing : (escrow : ℕ → Escrow) (v : ℕ)
+      → Exactly (entering_stand p escrow v) ((i : ℕ) → Entering p v i → IsTrue (stands p i (escrow i)))
   pub locks : (locks : ℕ → Bool) → Exactly (proper_locks p locks)
       (((q : ℕ) × (q < set_bits) × IsTrue (locks q)) × ((q : ℕ) → q < set_bits → IsTrue (locks q) → IsTrue (p.leader q)))
 
@@ -74,12 +75,14 @@ Rules = (p : Swap) (r : Run) (ws : List Waiting) → Reached (running p r ws) �
 
 -- When tick 0 is done, each party has its holdings.
 abbrev pub Begins : Type 0
-Begins = (p : Swap) (r : Run) (ws : List Waiting) → Reached (running p r ws) → r.tick ≡ 0 → (v l u : ℕ) → r.stock l (Party v) u ≡ start p v l u
+Begins =
+    (p : Swap) (r : Run) (ws : List Waiting) → Reached (running p r ws) → r.tick ≡ 0 → (v l u : ℕ) → r.stock l (Party v) u ≡ start p v l u
 
 -- What never happens, at any moment of a run.
 pub record Never (p : Swap) (r : Run) : Type 0 where
   -- a conforming party never puts itself in front of a route that it is on, or that is full
-  pub apart : (v lock j : ℕ) (q : List ℕ) → IsTrue (conforming p v) → Leaving p v j → (r.escrow j).opened lock ≡ Some q → r.signed v lock ≡ None
+  pub apart : (v lock j : ℕ) (q : List ℕ) → IsTrue (conforming p v) → Leaving p v j → (r.escrow j).opened lock ≡ Some q
+      → r.signed v lock ≡ None
       → IsFalse (mem v q) × (length q < max_parties)
   -- an open by a conforming party is never refused
   pub taken : (n i asset : ℕ) (locks : ℕ → Bool) → n < r.count → r.verdict n ≡ pending → (r.line n).filed < r.tick
@@ -95,7 +98,8 @@ Nevers = (p : Swap) (r : Run) → Sound p → Steps p (fresh p) r → Never p r
 
 -- What waits is what has no verdict: each once, with its filer and tick.
 pub record Waits (r : Run) (ws : List Waiting) : Type 0 where
-  pub known : AllByRecursion (λ w. (w.number < r.count) × (r.verdict w.number ≡ pending) × ((r.line w.number).filer ≡ w.filer) × ((r.line w.number).filed ≡ w.tick)) ws
+  pub known : All (λ w. (w.number < r.count) × (r.verdict w.number ≡ pending) × ((r.line w.number).filer ≡ w.filer)
+      × ((r.line w.number).filed ≡ w.tick)) ws
   pub all : (n : ℕ) → n < r.count → r.verdict n ≡ pending → IsTrue (mem n (map (λ w. w.number) ws))
   pub apart : IsTrue (distinct (map (λ w. w.number) ws))
   pub few : length ws ≤ r.count
@@ -111,7 +115,8 @@ pub record Pools : Type 0 where
   pub begun : (p : Swap) (s : Run) (after : List Waiting) → (t : TakenUp p s after) → NoneRefused t.waits
   pub filed : (p : Swap) (r : Run) (ws after : List Waiting) (v : ℕ) (x : Transaction) → Reached (running p r ws)
       → refusal (running p r ws) (submit v x) ≡ None → (a : Added (enter v x r) r.count (enter v x r).count ws after) → NoneRefused a
-  pub ticked : (p : Swap) (r s : Run) (ws after : List Waiting) → Reached (running p r ws) → (t : Ticked p r ws s after) → NoneRefused t.waits
+  pub ticked : (p : Swap) (r s : Run) (ws after : List Waiting) → Reached (running p r ws) → (t : Ticked p r ws s after)
+      → NoneRefused t.waits
 
 -- The books never refuse an accepted plan's holdings: entered one after another, each is accepted by the book of its ledger.
 abbrev pub Holdings : Type 0

@@ -18,7 +18,8 @@ module _ (p : Swap) where
   -- what the legs that party v paid have of a unit on a ledger
   abbrev pub spent : (ℕ → Escrow) → ℕ → ℕ → ℕ → ℕ
   spent escrow v l u =
-      sum_below p.legs (λ i. if p.payer i == v && p.ledger i == l && is_paid (escrow i).phase then worth (rules_of l) (escrow i).asset u else 0)
+      sum_below p.legs
+      (λ i. if p.payer i == v && p.ledger i == l && is_paid (escrow i).phase then worth (rules_of l) (escrow i).asset u else 0)
 
   -- by how much a party's stock has fallen since tick 0, when it had its holdings
   abbrev pub fallen : Run → ℕ → ℕ → ℕ → ℕ

@@ -35,7 +35,7 @@ module _ (p : Swap) where
   -- v may take up its opens: a leader at tick 0, another when all entering legs stand and a delivery is still in time
   abbrev pub MayBegin : Run → ℕ → Bool → Type 0
   MayBegin r v true = r.tick ≡ 0
-  MayBegin r v false = (IsTrue (entering_stand p r.escrow v)) × (r.tick + p.delta ≤ open_end p)
+  MayBegin r v false = IsTrue (entering_stand p r.escrow v) × (r.tick + p.delta ≤ open_end p)
 
   -- v may sign a route for a lock: itself alone for its own, and for another's
   -- itself in front of the route that the lowest leaving leg shows
@@ -68,9 +68,11 @@ module _ (p : Swap) where
 
   -- one small step
   pub data Step : Run → Run → Type 0 where
-    outside : (r : Run) (v : ℕ) (x : Transaction) → IsTrue (p.outsider v) → outsiders p r < outsider_lines → IsTrue (proper p x) → Step r (file v x r)
+    outside : (r : Run) (v : ℕ) (x : Transaction) → IsTrue (p.outsider v) → outsiders p r < outsider_lines → IsTrue (proper p x)
+        → Step r (file v x r)
     begins : (r : Run) (v : ℕ) → IsTrue (conforming p v) → IsFalse (r.begun v) → MayBegin r v (p.leader v) → Step r (begin v r)
-    signs : (r : Run) (v lock : ℕ) (route : List ℕ) → IsTrue (conforming p v) → IsTrue (entering_stand p r.escrow v) → r.signed v lock ≡ None
+    signs : (r : Run) (v lock : ℕ) (route : List ℕ) → IsTrue (conforming p v) → IsTrue (entering_stand p r.escrow v)
+        → r.signed v lock ≡ None
         → MaySign r v lock route → Step r (sign v lock route r)
     files : (r : Run) (v : ℕ) (x : Transaction) → IsTrue (conforming p v) → MayFile r v x → NoLine r v x → Step r (file v x r)
     delivers : (r : Run) (n : ℕ) → n < r.count → r.verdict n ≡ pending → (r.line n).filed < r.tick → Step r (deliver p n r)

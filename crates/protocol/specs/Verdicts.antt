@@ -84,7 +84,13 @@ module _ (p : Swap) where
   altered t (Key i route) e =
       let opened : ℕ → Option (List ℕ) = put e.opened (ends route) (Some route) in
       let last : Bool = all_opened e.locks opened in
-      record { phase = if last then Paid else e.phase; asset = e.asset; locks = e.locks; opened = opened; changed = (if last then t else e.changed) }
+      record {
+        phase = if last then Paid else e.phase;
+        asset = e.asset;
+        locks = e.locks;
+        opened = opened;
+        changed = if last then t else e.changed;
+      }
   altered t (Refund i) e = record { phase = Back; asset = e.asset; locks = e.locks; opened = e.opened; changed = t }
 
   -- what an effect moves in the books; the escrow is seen after it

@@ -1,15 +1,12 @@
 -- What stands behind a place of the bytes. `rest xs i` is `&xs[i..]` as the checker reads it.
-use Rattle.std.proofs.Common.{◌≡◌, ℕ, ◌-◌, ◌<◌, ◌≤◌, List, [], ◌∷◌, ◌++◌, length, get_or, take, drop, Err, Option, Result, sym, ap, ◌∙◌, subst, append_assoc, arith}
-use Rattle.std.proofs.lemmas.List.{drop_more, take_rest, drop_at, nil_from_length, length-append, take-append-drop}
+use Rattle.std.proofs.Common.{◌≡◌, ℕ, ◌-◌, ◌≤◌, List, ◌∷◌, ◌++◌, length, get_or, take, drop, Err, Option, Result, sym, ap, ◌∙◌, subst, append_assoc, arith}
+use Rattle.std.proofs.lemmas.List.{drop_more, take_rest, drop_at, length-append, take-append-drop}
 use Rattle.swap.specs.declared.faults.Fault.{Fault}
 use Rattle.records.specs.declared.record.Record.{Record}
 use Rattle.records.specs.Reading.{Unread, Next}
 
 abbrev rest : List ℕ → ℕ → List ℕ
 rest xs i = take (length xs - i) (drop i xs)
-
-pub none_left : (xs : List ℕ) (i : ℕ) → length (rest xs i) < 1 → drop i xs ≡ []
-none_left xs i h = sym (take_rest xs i) ∙ nil_from_length (rest xs i) (omega arith)
 
 opened : (xs : List ℕ) (i : ℕ) → 1 ≤ length (rest xs i) → drop i xs ≡ get_or (rest xs i) 0 0 ∷ rest (rest xs i) 1
 opened xs i h =
@@ -29,9 +26,6 @@ module _ (xs : List ℕ) (i k : ℕ) (body more : List ℕ) (h : 1 ≤ length (r
 
   whole : xs ≡ (take i xs ++ k ∷ body) ++ more
   whole = sym (take-append-drop i xs) ∙ ap (λ t. take i xs ++ t) split ∙ sym (append_assoc (take i xs) (k ∷ body) more)
-
-  pub shorter : length more ≤ length xs
-  shorter = omega (arith, ap length whole, length-append (take i xs ++ k ∷ body) more)
 
   follows : drop (length xs - length more) xs ≡ more
   follows =

@@ -1,9 +1,13 @@
 -- The bytes of a swap file's records. A record is a kind byte and a body whose length its kind fixes.
-use Rattle.std.specs.Prelude.{◌≡◌, ℕ, ◌/◌, ◌%◌, ◌^◌, ◌<◌, List, [], ◌∷◌, length, Some, None, Option, ◌==◌, if◌then◌else◌}
+use Rattle.std.specs.Prelude.{◌≡◌, ℕ, ◌/◌, ◌%◌, ◌^◌, ◌<◌, List, [], ◌∷◌, length, Some, None, Ok, Err, Option, Result, ◌==◌, if◌then◌else◌}
+use Rattle.records.specs.declared.record.Kind.{Kind}
+use Rattle.records.specs.declared.record.Kind.TheVariants as kinds
 use Rattle.records.specs.declared.record.Record.{Record}
 use Rattle.records.specs.declared.record.Record.TheVariants as raw
 use Rattle.records.specs.declared.record.Statement.{Statement}
 use Rattle.records.specs.declared.record.Statement.TheVariants.{Heading, Terms, Holding, Leg}
+use Rattle.swap.specs.declared.faults.Reason.{Reason}
+use Rattle.swap.specs.declared.faults.Reason.TheVariants.{UnknownKind}
 
 -- a number as four bytes, the highest first
 abbrev pub bytes4 : ℕ → List ℕ
@@ -35,6 +39,18 @@ Fits (Leg l) = (l.payer < 256) × (l.receiver < 256) × (l.ledger < 256) × (l.a
 abbrev pub body_size : ℕ → Option ℕ
 body_size kind =
     if kind == 1 then Some 4 else (if kind == 2 then Some 4 else (if kind == 3 then Some 6 else (if kind == 4 then Some 7 else None)))
+
+-- the kind byte
+abbrev pub byte_of : Kind → ℕ
+byte_of kinds.Heading = 1
+byte_of kinds.Terms = 2
+byte_of kinds.Holding = 3
+byte_of kinds.Leg = 4
+
+-- a byte is a kind's, or of no known kind
+abbrev pub Decodes : ℕ → Result Kind Reason → Type 0
+Decodes byte (Ok kind) = byte_of kind ≡ byte
+Decodes byte (Err reason) = (reason ≡ UnknownKind) × (body_size byte ≡ None)
 
 -- a record as the reader hands it on
 abbrev pub record_kind : Record → ℕ

@@ -1,19 +1,50 @@
-ghost use Rattle.std.specs.Prelude.{◌≡◌, length, MatchOption, ◌≢◌};
-ghost use Rattle.records.specs.Records.{kind_of, Formed, Holds, States};
+ghost use Rattle.std.specs.Prelude.{◌≡◌, Some, length, MatchOption, ◌≢◌};
+ghost use Rattle.records.specs.Records.{byte_of, body_size, kind_of, Formed, Holds, States};
 
+use swap::faults::Reason;
 use swap::records::{Holding, Leg, Terms};
 use swap::sets::PartySet;
 
-// the kind bytes
-pub const HEADING: u8 = 1;
+// The kinds of record, in the order in which a file has them, each with its kind byte.
+#[derive(Clone, Copy, PartialEq, Eq, PartialOrd, Ord, Debug)]
+pub enum Kind {
+    Heading = 1,
+    Terms = 2,
+    Holding = 3,
+    Leg = 4,
+}
 
-pub const TERMS: u8 = 2;
+impl Kind {
+    // How many bytes follow the kind byte?
+    pub fn body_len(self) -> usize
+        ensures { body_size (byte_of self) ≡ Some result }
+    {
+        match self {
+            Kind::Heading | Kind::Terms => 4,
+            Kind::Holding => 6,
+            Kind::Leg => 7,
+        }
+    }
+}
 
-pub const HOLDING: u8 = 3;
+// The kind of a kind byte.
+impl TryFrom<u8> for Kind {
+    ghost use Rattle.records.specs.Records.{Decodes};
 
-pub const LEG: u8 = 4;
+    type Error = Reason;
+
+    ghost try_from_gives = { Decodes };
+
+    fn try_from(byte: u8) -> Result<Kind, Reason> {
+        [Kind::Heading, Kind::Terms, Kind::Holding, Kind::Leg]
+            .into_iter()
+            .find(|kind| *kind as u8 == byte)
+            .ok_or(Reason::UnknownKind)
+    }
+}
 
 // A record as it stands in the file, by its body.
+// A body is a slice, and contracts say that it has the length of its kind: of an array no proof covers a rest as `asset @ ..`.
 #[derive(Clone, Copy)]
 pub enum Record<'a> {
     Heading(&'a [u8]),
@@ -32,14 +63,14 @@ pub enum Statement {
 }
 
 impl Statement {
-    pub fn kind(&self) -> u8
-        ensures { result ≡ kind_of self.now }
+    pub fn kind(&self) -> Kind
+        ensures { byte_of result ≡ kind_of self.now }
     {
         match self {
-            Statement::Heading(_) => HEADING,
-            Statement::Terms(_) => TERMS,
-            Statement::Holding(_) => HOLDING,
-            Statement::Leg(_) => LEG,
+            Statement::Heading(_) => Kind::Heading,
+            Statement::Terms(_) => Kind::Terms,
+            Statement::Holding(_) => Kind::Holding,
+            Statement::Leg(_) => Kind::Leg,
         }
     }
 }
@@ -48,10 +79,8 @@ impl Statement {
 fn number(bytes: &[u8]) -> Option<u32>
     ensures { MatchOption result (length bytes.now ≢ 4) (λ n. Holds bytes.now (Statement.Heading n)) }
 {
-    let [a, b, c, d] = bytes else {
-        return None;
-    };
-    Some(u32::from_be_bytes([*a, *b, *c, *d]))
+    let bytes = <[u8; 4]>::try_from(bytes).ok()?;
+    Some(u32::from_be_bytes(bytes))
 }
 
 fn terms(body: &[u8]) -> Option<Terms>
@@ -60,16 +89,10 @@ fn terms(body: &[u8]) -> Option<Terms>
     let [parties, leaders, outsiders, delta] = body else {
         return None;
     };
-    let leaders = PartySet {
-        bits: u16::from(*leaders),
-    };
-    let outsiders = PartySet {
-        bits: u16::from(*outsiders),
-    };
     Some(Terms {
         parties: *parties,
-        leaders,
-        outsiders,
+        leaders: PartySet::from(*leaders),
+        outsiders: PartySet::from(*outsiders),
         delta: *delta,
     })
 }

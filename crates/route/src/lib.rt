@@ -1,24 +1,32 @@
 // Routes: lists of parties, one at least, none twice.
 #![tactic(auto)]
 
-ghost use Rattle.std.specs.Prelude.{◌≡◌, ◌≤◌, length, take, IsTrue};
-ghost use Rattle.swap.specs.Limits.{max_parties};
-ghost use Rattle.swap.specs.Routes.{distinct};
-
-use swap::limits::MAX_PARTIES;
+use std::marker::Model;
+use swap::limits::PARTIES;
 
 mod methods;
 
 // the most parties of a route: all of them
-pub const ROOM: usize = MAX_PARTIES as usize;
+pub const ROOM: usize = PARTIES;
 
-// A route: the first `len` of `parties`.
-#[derive(Clone, Copy)]
+// A route: the first `len` of `parties`, and zeros behind.
+// Plain numbers in an array with their count beside: no heap, and an `ArrayVec` is never `Copy`.
+#[derive(Clone, Copy, Debug)]
 pub struct Route {
     parties: [u8; ROOM],
     len: usize,
-    ghost full: { length parties ≡ max_parties },
-    ghost some: { 1 ≤ len },
-    ghost most: { len ≤ max_parties },
-    ghost apart: { IsTrue (distinct (take len parties)) },
+}
+
+// Seen from outside a route is the list of its parties.
+impl Model for Route {
+    ghost use Rattle.std.specs.Prelude.{List, ℕ, length};
+    ghost use Rattle.route.specs.Views.{parties_of, padded, IsRoute};
+
+    ghost Value = { List ℕ };
+
+    ghost view = { parties_of };
+
+    ghost invariant = { IsRoute };
+
+    ghost inverse = { λ parties. record { parties = padded parties; len = length parties } };
 }

@@ -1,116 +1,134 @@
-ghost use Rattle.std.specs.Prelude.{◌≡◌, ◌<◌, [], ◌∷◌, length, drop, if◌then◌else◌, Some, None, IsFalse};
-ghost use Rattle.route.specs.Views.{parties_of, proper, first_party, last_party, suffix};
-ghost use Rattle.std.specs.Option.{option_map};
+ghost use Rattle.std.specs.Prelude.{◌≡◌, ◌<◌, ◌==◌, [], ◌∷◌, length, position, if◌then◌else◌, Some, None, IsTrue, IsFalse};
+ghost use Rattle.route.specs.Views.{proper, first_party, last_party, suffix};
 ghost use Rattle.swap.specs.Limits.{max_parties};
-ghost use Rattle.swap.specs.Routes.{mem};
+ghost use Rattle.swap.specs.Routes.{mem, distinct};
 ghost use Rattle.swap.specs.Sets.{Exactly};
 
 use crate::{ROOM, Route};
 
 impl Route {
+    // The route with these parties.
+    fn of(parties: &[u8]) -> Route
+        requires { IsTrue (proper parties.now) }
+        ensures { result ≡ parties.now }
+    {
+        let mut places = [0; ROOM];
+        places[..parties.len()].copy_from_slice(parties);
+        Route {
+            parties: places,
+            len: parties.len(),
+        }
+    }
+
     // The route of one party.
     pub fn alone(party: u8) -> Route
-        ensures { parties_of result ≡ party ∷ [] }
+        ensures { result ≡ party ∷ [] }
     {
-        let mut parties = [0; ROOM];
-        parties[0] = party;
-        Route { parties, len: 1 }
+        Route::of(&[party])
     }
 
     // The route with these parties, if they can be one.
     pub fn from_parties(parties: &[u8]) -> Option<Route>
-        ensures { option_map parties_of result ≡ (if proper parties.now then Some parties.now else None) }
+        ensures { result ≡ (if proper parties.now then Some parties.now else None) }
     {
-        let Some(last) = parties.len().checked_sub(1) else {
+        if parties.is_empty() || parties.len() > ROOM || !are_distinct(parties) {
             return None;
-        };
-        let mut route = Route::alone(parties[last]);
-        for i in (0..last).rev() {
-            if route.len >= ROOM || route.contains(parties[i]) {
-                return None;
-            }
-            route = route.behind(parties[i]);
         }
-        Some(route)
+        Some(Route::of(parties))
     }
 
     pub fn len(&self) -> usize
-        ensures { result ≡ length (parties_of self.now) }
+        ensures len { result ≡ length self.now }
+        ensures proper { IsTrue (proper self.now) }
     {
         self.parties().len()
     }
 
     pub fn parties(&self) -> &[u8]
-        ensures { result.now ≡ parties_of self.now }
+        ensures parties { result.now ≡ self.now }
+        ensures proper { IsTrue (proper self.now) }
     {
-        &self.parties[0..self.len]
+        &self.parties[..self.len]
     }
 
     pub fn first(&self) -> u8
-        ensures { result ≡ first_party (parties_of self.now) }
+        ensures { result ≡ first_party self.now }
     {
         self.parties[0]
     }
 
     pub fn last(&self) -> u8
-        ensures { result ≡ last_party (parties_of self.now) }
+        ensures { result ≡ last_party self.now }
     {
         self.parties[self.len - 1]
     }
 
     pub fn contains(&self, party: u8) -> bool
-        ensures { result ≡ mem party (parties_of self.now) }
+        ensures { result ≡ mem party self.now }
     {
         self.parties().contains(&party)
     }
 
-    // Do both have the same parties in the same order?
-    pub fn same(&self, other: &Route) -> bool
-        ensures { Exactly result (parties_of self.now ≡ parties_of other.now) }
-    {
-        self.parties() == other.parties()
-    }
-
     // This route with one party more, in front.
     pub fn behind(self, party: u8) -> Route
-        requires { (IsFalse (mem party (parties_of self))) × (self.len < max_parties) }
-        ensures { parties_of result ≡ party ∷ parties_of self }
+        requires absent { IsFalse (mem party self) }
+        requires room { length self < max_parties }
+        ensures { result ≡ party ∷ self }
     {
-        let mut parties = [0; ROOM];
-        parties[0] = party;
-        for i in 0..self.len {
-            parties[i + 1] = self.parties[i];
-        }
-        Route {
-            parties,
-            len: self.len + 1,
-        }
+        let mut parties = [party; ROOM];
+        parties[1..=self.len].copy_from_slice(self.parties());
+        Route::of(&parties[..=self.len])
     }
 
     // The part of the route from a party to its end, if the party is on it.
     pub fn tail(&self, party: u8) -> Option<Route>
-        ensures { option_map parties_of result ≡ suffix party (parties_of self.now) }
+        ensures { result ≡ suffix party self.now }
     {
-        let parties = self.parties();
-        for (i, p) in parties.iter().enumerate() {
-            if *p == party {
-                return Some(self.suffix_at(i));
-            }
-        }
-        None
+        let place = self.place_of(party)?;
+        Some(Route::of(&self.parties()[place..]))
     }
 
-    // The part of the route from a place to its end.
-    fn suffix_at(&self, place: usize) -> Route
-        requires { place < self.now.len }
-        ensures { parties_of result ≡ drop place (parties_of self.now) }
+    // The place of a party on the route.
+    fn place_of(&self, party: u8) -> Option<usize>
+        ensures { result ≡ position (λ p. party == p) self.now }
     {
-        let mut parties = [0; ROOM];
-        let len = self.len - place;
-        for i in 0..len {
-            parties[i] = self.parties[place + i];
-        }
-        Route { parties, len }
+        self.parties().iter().position(|p| party == *p)
+    }
+}
+
+// Two routes are the same when they have the same parties in the same order.
+// By hand: a derive has no contract, and here `==` promises to be the equality of the lists.
+impl PartialEq for Route {
+    ghost use Rattle.std.proofs.Common.{rules};
+    ghost use Rattle.std.specs.Str.{bytes_eq};
+    ghost use Rattle.std.specs.Cmp.Rules.{comparing};
+
+    ghost eq = { bytes_eq };
+
+    ghost laws = { Prim.search (comparing, rules) };
+
+    fn eq(&self, other: &Self) -> bool
+        ensures eq { result ≡ bytes_eq self.now other.now }
+        ensures same { Exactly result (self.now ≡ other.now) }
+    {
+        self.parties() == other.parties()
+    }
+}
+
+impl Eq for Route {
+    ghost use Rattle.std.proofs.Common.{rules};
+    ghost use Rattle.std.specs.Cmp.Rules.{comparing};
+
+    ghost laws = { Prim.search (comparing, rules) };
+}
+
+// Does no party stand twice?
+fn are_distinct(parties: &[u8]) -> bool
+    ensures { result ≡ distinct parties.now }
+{
+    match parties {
+        [] => true,
+        [first, rest @ ..] => !rest.contains(first) && are_distinct(rest),
     }
 }
 
@@ -128,7 +146,7 @@ mod tests {
         assert_eq!(rt; tail.last(), 5);
         assert!(rt; route.tail(1).is_none());
         assert!(rt; route.contains(5) && !route.contains(3));
-        assert!(rt; !tail.same(&route) && route.same(&route));
+        assert!(rt; tail != route && route == route);
         Ok(())
     }
 

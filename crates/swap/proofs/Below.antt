@@ -1,6 +1,6 @@
 -- Tests over the numbers below n.
 use Rattle.std.proofs.Common.{◌≡◌, ℕ, zero, suc, ◌<◌, Bool, true, false, refl, ⊎_elim, arith}
-use Rattle.std.proofs.lemmas.Bool.{and_cases, both_ways, cases_Bool, or_from, true≢false}
+use Rattle.std.proofs.lemmas.Bool.{and_cases, both_ways, cases_Bool, true≢false}
 use Rattle.std.proofs.lemmas.Bool.Decides.{Decides-below_and, Decides-below_or}
 use Rattle.swap.specs.Below.{all_below, some_below}
 
@@ -32,11 +32,3 @@ all_fails (suc n) f e = ⊎_elim
 -- where the test holds of none
 pub none_in : (n : ℕ) (f : ℕ → Bool) → some_below n f ≡ false → (k : ℕ) → k < n → f k ≡ false
 none_in n f e k h = ⊎_elim (λ t. absurd (both_ways (some_below n f) e (some_of n f k h t))) (λ p. p) (cases_Bool (f k))
-
-pub none_first : (f : ℕ → Bool) → some_below 0 f ≡ false
-unfolding some_below
-none_first f = refl
-
-pub none_more : (n : ℕ) (f : ℕ → Bool) → some_below n f ≡ false → f n ≡ false → some_below (suc n) f ≡ false
-unfolding some_below
-none_more n f p q = or_from (f n) (some_below n f) q p

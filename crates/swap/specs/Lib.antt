@@ -1,6 +1,7 @@
 pub mod Assets
 pub mod Below
 pub mod Faults
+pub mod Holders
 pub mod Limits
 pub mod Routes
 pub mod Sets

@@ -1,6 +1,6 @@
 -- Routes are lists of parties. Everything here is said over any relation Pays: Pays x y says that x pays a leg to y.
 use Rattle.std.specs.Prelude.{◌≡◌, ℕ, ◌<◌, ◌≤◌, Bool, true, false, not, ◌&&◌, ◌||◌, List, [], ◌∷◌, length, Some, None, Option, ◌==◌, nat_le, if◌then◌else◌, IsTrue, IsFalse}
-use Rattle.std.specs.List.{AllByRecursion}
+use Rattle.std.specs.List.{All}
 use Rattle.swap.specs.Limits.{max_parties}
 
 -- is party x on the list?
@@ -63,5 +63,5 @@ Led Pays leader = (x : ℕ) (r : List ℕ) → Cycle Pays x r → (p : ℕ) × I
 
 -- The span: some joined route of parties below n has that many parties, and none has more.
 pub record Span (Pays : ℕ → ℕ → Type 0) (n span : ℕ) : Type 0 where
-  pub some : (r : List ℕ) × Joined Pays r × AllByRecursion (λ x. x < n) r × (length r ≡ span)
+  pub some : (r : List ℕ) × Joined Pays r × All (λ x. x < n) r × (length r ≡ span)
   pub most : (r : List ℕ) → Joined Pays r → length r ≤ span

@@ -4,22 +4,35 @@ ghost use Rattle.swap.specs.Faults.{number_of, layer_of};
 // Why a call is refused. Each reason has a number of its own.
 #[derive(Clone, Copy, PartialEq, Eq, Debug)]
 pub enum Reason {
-    SwapHeld,
-    FileSize,
-    UnknownKind,
-    CutShort,
-    OutOfOrder,
-    BadField,
-    TooMany,
-    HeldTwice,
-    Missing,
-    NotCovered,
-    NotConnected,
-    NoLeader,
-    NotRunning,
-    NotOutsider,
-    JournalFull,
-    BadRequest,
+    SwapHeld = 1,
+    FileSize = 2,
+    UnknownKind = 3,
+    CutShort = 4,
+    OutOfOrder = 5,
+    BadField = 6,
+    TooMany = 7,
+    HeldTwice = 8,
+    Missing = 9,
+    NotCovered = 10,
+    NotConnected = 11,
+    NoLeader = 12,
+    NotRunning = 13,
+    NotOutsider = 14,
+    JournalFull = 15,
+    BadRequest = 16,
+}
+
+impl Reason {
+    // The refusal for this reason, at a place.
+    pub fn at(self, place: usize) -> Fault
+        ensures reason { result.reason ≡ self }
+        ensures place { result.place ≡ place }
+    {
+        Fault {
+            reason: self,
+            place,
+        }
+    }
 }
 
 // Which part of the engine refuses.
@@ -31,6 +44,7 @@ pub enum Layer {
 }
 
 // A refusal: the reason, and the place in the file, the leg, the party or the tick that it speaks of.
+// The place is a number also where there is none: the rules tell 0 then.
 #[derive(Clone, Copy, PartialEq, Eq, Debug)]
 pub struct Fault {
     pub reason: Reason,
@@ -41,26 +55,10 @@ impl Fault {
     pub fn number(&self) -> u8
         ensures { result ≡ number_of self.now.reason }
     {
-        match self.reason {
-            Reason::SwapHeld => 1,
-            Reason::FileSize => 2,
-            Reason::UnknownKind => 3,
-            Reason::CutShort => 4,
-            Reason::OutOfOrder => 5,
-            Reason::BadField => 6,
-            Reason::TooMany => 7,
-            Reason::HeldTwice => 8,
-            Reason::Missing => 9,
-            Reason::NotCovered => 10,
-            Reason::NotConnected => 11,
-            Reason::NoLeader => 12,
-            Reason::NotRunning => 13,
-            Reason::NotOutsider => 14,
-            Reason::JournalFull => 15,
-            Reason::BadRequest => 16,
-        }
+        self.reason as u8
     }
 
+    // By the ranges of numbers that the rules name.
     pub fn layer(&self) -> Layer
         ensures { result ≡ layer_of (number_of self.now.reason) }
     {

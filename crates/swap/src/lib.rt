@@ -1,6 +1,7 @@
-// The vocabulary of a swap: limits, party sets, the records of a file, and faults.
+// The vocabulary of a swap: limits, assets, party sets, the records of a file, who holds what, what waits, and faults.
 #![tactic(auto)]
 
+pub mod assets;
 pub mod faults;
 pub mod limits;
 pub mod records;

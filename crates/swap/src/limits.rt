@@ -4,6 +4,8 @@
 pub const MIN_PARTIES: u8 = 2;
 
 pub const MAX_PARTIES: u8 = 8;
+// places of a table that has one for each party
+pub const PARTIES: usize = MAX_PARTIES as usize;
 
 pub const MAX_LEGS: usize = 24;
 
@@ -27,6 +29,6 @@ pub const COIN_CEILING: u32 = MAX_PARTIES as u32 * MAX_COINS;
 // journal lines: the outsiders', and for each leg an open, a refund, and a key for each lock
 pub const OUTSIDER_LINES: usize = 512;
 
-pub const MAX_LINES: usize = OUTSIDER_LINES + 2 * MAX_LEGS + MAX_LEGS * MAX_PARTIES as usize;
-// places of a party set
+pub const MAX_LINES: usize = OUTSIDER_LINES + 2 * MAX_LEGS + MAX_LEGS * PARTIES;
+// bits of a party set
 pub const SET_BITS: u8 = 16;

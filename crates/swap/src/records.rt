@@ -1,4 +1,7 @@
 // What a swap file says, record by record; who holds assets; what waits for delivery.
+ghost use Rattle.std.specs.Prelude.{◌≡◌};
+
+use crate::limits::{MAX_LEGS, MAX_PARTIES};
 use crate::sets::PartySet;
 
 // The terms of a swap: how many parties, who leads, who is not bound to conform, and the delay of delivery in ticks.
@@ -32,6 +35,20 @@ pub struct Leg {
 pub enum Holder {
     Party(u8),
     Escrow(u8),
+}
+
+impl Holder {
+    ghost use Rattle.swap.specs.Holders.{is_holder};
+
+    // Can there be such a party, or such an account?
+    pub fn exists(&self) -> bool
+        ensures { result ≡ is_holder self.now }
+    {
+        match self {
+            Holder::Party(party) => *party < MAX_PARTIES,
+            Holder::Escrow(account) => usize::from(*account) < MAX_LEGS,
+        }
+    }
 }
 
 // A transaction that waits for delivery: its number, who filed it, and the tick at which it was filed.

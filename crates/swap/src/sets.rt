@@ -9,6 +9,17 @@ pub struct PartySet {
     pub bits: u16,
 }
 
+// The set of a byte of a file.
+impl From<u8> for PartySet {
+    ghost from_gives = { λ byte set. set.bits ≡ byte };
+
+    fn from(byte: u8) -> PartySet {
+        PartySet {
+            bits: u16::from(byte),
+        }
+    }
+}
+
 impl PartySet {
     pub fn has(&self, party: u8) -> bool
         ensures { result ≡ member self.now.bits party }

@@ -1,33 +1,34 @@
 // The vocabulary in printed words.
+use crate::assets::holds_coins;
 use crate::faults::{Fault, Reason};
-use crate::limits::{COIN_LEDGERS, MAX_FILE, MAX_PARTIES};
-use crate::records::{Holding, Leg, Terms};
+use crate::limits::{MAX_FILE, MAX_PARTIES};
+use crate::records::{Holder, Holding, Leg, Terms, Waiting};
 use crate::sets::PartySet;
 use std::fmt;
 
 // The parties of a set, lowest first, or `none`.
 impl fmt::Display for PartySet {
     fn fmt<W: fmt::Write>(&self, f: &mut fmt::Formatter<W>) -> fmt::Result {
-        let mut any = false;
-        for party in 0..MAX_PARTIES {
-            if self.has(party) {
-                if any {
-                    write!(f, " ")?;
-                }
-                write!(f, "{party}")?;
-                any = true;
-            }
+        let mut members = (0..MAX_PARTIES).filter(|party| self.has(*party));
+        let Some(first) = members.next() else {
+            return write!(f, "none");
+        };
+        write!(f, "{first}")?;
+        for party in members {
+            write!(f, " {party}")?;
         }
-        if any { Ok(()) } else { write!(f, "none") }
+        Ok(())
     }
 }
 
 impl fmt::Display for Terms {
     fn fmt<W: fmt::Write>(&self, f: &mut fmt::Formatter<W>) -> fmt::Result {
-        let parties = self.parties;
-        let leaders = self.leaders;
-        let outsiders = self.outsiders;
-        let delta = self.delta;
+        let Terms {
+            parties,
+            leaders,
+            outsiders,
+            delta,
+        } = *self;
         write!(
             f,
             "{parties} parties, leaders {leaders}, outsiders {outsiders}, delta {delta}"
@@ -35,8 +36,8 @@ impl fmt::Display for Terms {
     }
 }
 
-// An asset on a ledger of the file.
-#[derive(Drop)]
+// An asset on a ledger of the file. Made only to be printed: records keep ledger and asset as two fields, as the file has them.
+#[derive(Clone, Copy)]
 struct Amount {
     ledger: u8,
     asset: u32,
@@ -44,9 +45,8 @@ struct Amount {
 
 impl fmt::Display for Amount {
     fn fmt<W: fmt::Write>(&self, f: &mut fmt::Formatter<W>) -> fmt::Result {
-        let ledger = self.ledger;
-        let asset = self.asset;
-        if ledger < COIN_LEDGERS {
+        let Amount { ledger, asset } = *self;
+        if holds_coins(ledger) {
             write!(f, "{asset} coins on ledger {ledger}")
         } else {
             write!(f, "title {asset} on ledger {ledger}")
@@ -56,32 +56,54 @@ impl fmt::Display for Amount {
 
 impl fmt::Display for Holding {
     fn fmt<W: fmt::Write>(&self, f: &mut fmt::Formatter<W>) -> fmt::Result {
-        let party = self.party;
-        let amount = Amount {
-            ledger: self.ledger,
-            asset: self.asset,
-        };
+        let Holding {
+            ledger,
+            party,
+            asset,
+        } = *self;
+        let amount = Amount { ledger, asset };
         write!(f, "party {party} holds {amount}")
     }
 }
 
 impl fmt::Display for Leg {
     fn fmt<W: fmt::Write>(&self, f: &mut fmt::Formatter<W>) -> fmt::Result {
-        let payer = self.payer;
-        let receiver = self.receiver;
-        let amount = Amount {
-            ledger: self.ledger,
-            asset: self.asset,
-        };
+        let Leg {
+            payer,
+            receiver,
+            ledger,
+            asset,
+        } = *self;
+        let amount = Amount { ledger, asset };
         write!(f, "party {payer} pays party {receiver} {amount}")
+    }
+}
+
+impl fmt::Display for Holder {
+    fn fmt<W: fmt::Write>(&self, f: &mut fmt::Formatter<W>) -> fmt::Result {
+        match self {
+            Holder::Party(party) => write!(f, "party {party}"),
+            Holder::Escrow(account) => write!(f, "account {account}"),
+        }
+    }
+}
+
+impl fmt::Display for Waiting {
+    fn fmt<W: fmt::Write>(&self, f: &mut fmt::Formatter<W>) -> fmt::Result {
+        let Waiting {
+            number,
+            filer,
+            tick,
+        } = *self;
+        write!(f, "number {number} of party {filer}, filed at tick {tick}")
     }
 }
 
 // What is wrong, in words.
 impl fmt::Display for Fault {
     fn fmt<W: fmt::Write>(&self, f: &mut fmt::Formatter<W>) -> fmt::Result {
-        let place = self.place;
-        match self.reason {
+        let Fault { reason, place } = *self;
+        match reason {
             Reason::SwapHeld => write!(f, "a swap is under way"),
             Reason::FileSize => write!(f, "the file is empty or longer than {MAX_FILE} bytes"),
             Reason::UnknownKind => write!(f, "the record at byte {place} is of no known kind"),

@@ -6,6 +6,7 @@ use Rattle.records.specs.declared.record.Statement.{Statement}
 use Rattle.records.specs.declared.record.Statement.TheVariants as states
 use Rattle.std.proofs.lemmas.Bool.{or_left, lt-ltb, both_ways}
 use Rattle.std.proofs.lemmas.List.{length-append}
+use Rattle.std.proofs.lemmas.Option.{none-some}
 use Rattle.std.specs.List.{flat_map}
 use Rattle.swap.specs.Limits.{max_file}
 use Rattle.swap.specs.declared.records.Holding.{Holding}
@@ -35,8 +36,8 @@ steady m s (states.Leg p ∷ rs) a l = let i = steady m (put s (states.Leg p)) r
 other :
     (m m' : Option ℕ) (o : Option Terms) (hs : List Holding) (ls : List Leg) (c : Content) → complete m o hs ls ≡ Some c
     → (c.number ≡ unwrap_or m 0) × (complete m' o hs ls ≡ Some (numbered (unwrap_or m' 0) c))
-other m m' None hs ls c e = let z : ◌≡◌ {A = ℕ} 0 1 = cc in absurd (omega arith)
-other m m' (Some t) hs [] c e = let z : ◌≡◌ {A = ℕ} 0 1 = cc in absurd (omega arith)
+other m m' None hs ls c e = absurd (none-some _ e)
+other m m' (Some t) hs [] c e = absurd (none-some _ e)
 other m m' (Some t) hs (l ∷ ls) c e =
     let q : record { number = unwrap_or m 0; terms = t; holdings = hs; legs = l ∷ ls } ≡ c = cc in
     (ap (λ x. x.number) (sym q), ap (λ x. Some (numbered (unwrap_or m' 0) x)) q)
@@ -76,13 +77,13 @@ module _ (n : ℕ) (bytes : List ℕ) (c : Content) (f : n < 2 ^ 32) where
   without_by :
       (rs : List Statement) → bytes ≡ flat_map encode rs → length bytes ≤ max_file → Lawful (put start head) rs
       → whole (after (put start head) rs) ≡ Some c → (c.number ≡ n) × Accepted bytes (numbered 0 c)
-  without_by [] e z l w = let q : ◌≡◌ {A = ℕ} 0 1 = cc in absurd (omega arith)
-  without_by (states.Heading k ∷ rs) e z l w = let q : ◌≡◌ {A = ℕ} 0 1 = cc l.1 in absurd (omega arith)
+  without_by [] e z l w = absurd (none-some _ w)
+  without_by (states.Heading k ∷ rs) e z l w = absurd (none-some _ (sym l.1))
   without_by (states.Terms t ∷ rs) e z l w =
       let m = moved (Some n) None t rs c l.2 w in
       (m.0, record { records = states.Terms t ∷ rs; sized = (omega (arith, ap length e), z); encoded = e; lawful = (l.0, l.1, m.1); says = m.2 })
-  without_by (states.Holding h ∷ rs) e z l w = let q : ◌≡◌ {A = ℕ} 0 1 = cc l.1 in absurd (omega arith)
-  without_by (states.Leg p ∷ rs) e z l w = let q : ◌≡◌ {A = ℕ} 0 1 = cc l.1 in absurd (omega arith)
+  without_by (states.Holding h ∷ rs) e z l w = absurd (none-some _ (sym l.1))
+  without_by (states.Leg p ∷ rs) e z l w = absurd (none-some _ (sym l.1))
 
   without : Accepted (encode head ++ bytes) c → (c.number ≡ n) × Accepted bytes (numbered 0 c)
   without h = go h.records h.encoded h.lawful h.says
@@ -90,7 +91,7 @@ module _ (n : ℕ) (bytes : List ℕ) (c : Content) (f : n < 2 ^ 32) where
       go :
           (rs : List Statement) → encode head ++ bytes ≡ flat_map encode rs → Lawful start rs → whole (after start rs) ≡ Some c
           → (c.number ≡ n) × Accepted bytes (numbered 0 c)
-      go [] e l w = let q : ◌≡◌ {A = ℕ} 0 1 = cc in absurd (omega arith)
+      go [] e l w = absurd (none-some _ w)
       go (r ∷ rs) e l w =
           let b = behind r rs e l in
           without_by rs b.1 (omega (arith, h.sized.1, length-append (encode head) bytes))
@@ -100,7 +101,7 @@ module _ (n : ℕ) (bytes : List ℕ) (c : Content) (f : n < 2 ^ 32) where
   with_by :
       (rs : List Statement) → bytes ≡ flat_map encode rs → Sized (encode head ++ bytes) → (get_or bytes 0 0 ≡ 1 → ⊥) → Lawful start rs
       → whole (after start rs) ≡ Some c → (c.number ≡ 0) × Accepted (encode head ++ bytes) (numbered n c)
-  with_by [] e z no_head l w = let q : ◌≡◌ {A = ℕ} 0 1 = cc in absurd (omega arith)
+  with_by [] e z no_head l w = absurd (none-some _ w)
   with_by (states.Heading k ∷ rs) e z no_head l w = absurd (no_head (ap (λ x. get_or x 0 0) e))
   with_by (states.Terms t ∷ rs) e z no_head l w =
       let m = moved None (Some n) t rs c l.2 w in (
@@ -113,8 +114,8 @@ module _ (n : ℕ) (bytes : List ℕ) (c : Content) (f : n < 2 ^ 32) where
           says = m.2;
         },
       )
-  with_by (states.Holding h ∷ rs) e z no_head l w = let q : ◌≡◌ {A = ℕ} 0 1 = cc l.1 in absurd (omega arith)
-  with_by (states.Leg p ∷ rs) e z no_head l w = let q : ◌≡◌ {A = ℕ} 0 1 = cc l.1 in absurd (omega arith)
+  with_by (states.Holding h ∷ rs) e z no_head l w = absurd (none-some _ (sym l.1))
+  with_by (states.Leg p ∷ rs) e z no_head l w = absurd (none-some _ (sym l.1))
 
 pub heading_tells : HeadingTells
 heading_tells n bytes c f =

@@ -1,3 +1,4 @@
+pub mod Bytes
 pub mod Headings
 pub mod Looks
 pub mod Rules

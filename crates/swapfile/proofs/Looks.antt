@@ -1,11 +1,12 @@
 -- What stands at the front of some bytes, after records that said s: one thing only.
 use Rattle.std.proofs.Common.{◌≡◌, ℕ, ◌+◌, ◌*◌, ◌<◌, Bool, true, false, cond, eqb, List, [], ◌∷◌, ◌++◌, length, Some, None, Option, sym, refl, ap, ◌∙◌, arith}
 use Rattle.filerules.specs.Said.{Said, fault_of}
-use Rattle.records.proofs.Bytes.{number_of}
+use Rattle.swapfile.proofs.Bytes.{number_of}
 use Rattle.records.specs.Reading.{Unread, unknown, short}
 use Rattle.records.specs.Records.{kind_of, body_of, encode, Fits}
 use Rattle.records.specs.declared.record.Statement.{Statement}
 use Rattle.records.specs.declared.record.Statement.TheVariants as states
+use Rattle.std.proofs.lemmas.Option.{none-some}
 use Rattle.swap.specs.declared.faults.Reason.{Reason}
 use Rattle.swap.specs.declared.faults.Reason.TheVariants.{UnknownKind, CutShort, Missing}
 use Rattle.swapfile.specs.Files.{Content, whole, Stuck, unread, broken, ended}
@@ -103,13 +104,13 @@ cut true b c d t n e h = let k : 4 ≡ n = cc in number_short states.Heading t (
 cut false true c d t n e h = let k : 4 ≡ n = cc in terms_short t (omega arith)
 cut false false true d t n e h = let k : 6 ≡ n = cc in holding_short t (omega arith)
 cut false false false true t n e h = let k : 7 ≡ n = cc in leg_short t (omega arith)
-cut false false false false t n e h = let z : ◌≡◌ {A = ℕ} 0 1 = cc in absurd (omega arith)
+cut false false false false t n e h = absurd (none-some _ e)
 
 foreign : (a b c d : Bool) (t : List ℕ) → size_by a b c d ≡ None → by_kind a b c d t ≡ fails UnknownKind
-foreign true b c d t e = let z : ◌≡◌ {A = ℕ} 0 1 = cc in absurd (omega arith)
-foreign false true c d t e = let z : ◌≡◌ {A = ℕ} 0 1 = cc in absurd (omega arith)
-foreign false false true d t e = let z : ◌≡◌ {A = ℕ} 0 1 = cc in absurd (omega arith)
-foreign false false false true t e = let z : ◌≡◌ {A = ℕ} 0 1 = cc in absurd (omega arith)
+foreign true b c d t e = absurd (none-some _ (sym e))
+foreign false true c d t e = absurd (none-some _ (sym e))
+foreign false false true d t e = absurd (none-some _ (sym e))
+foreign false false false true t e = absurd (none-some _ (sym e))
 foreign false false false false t e = refl
 
 unparsed : (k : ℕ) (t : List ℕ) (x : Reason) → Unread k t x → parse k t ≡ fails x

@@ -1,16 +1,16 @@
 -- Lawful records say what is ruled.
-use Rattle.std.proofs.Common.{◌≡◌, ℕ, zero, suc, ◌%◌, ◌<◌, ◌≤◌, Bool, true, false, cond, not, ◌&&◌, ◌||◌, eqb, ltb, leb, List, [], ◌∷◌, ◌++◌, length, get_or, is_some, IfOk, Some, None, Ok, Err, Option, Result, unwrap_or, sym, refl, ap, ◌∙◌, subst, ⊎_elim, arith}
+use Rattle.std.proofs.Common.{◌≡◌, ℕ, zero, suc, ◌%◌, ◌<◌, ◌≤◌, Bool, true, false, not, ◌&&◌, ◌||◌, eqb, ltb, leb, List, [], ◌∷◌, ◌++◌, length, get_or, is_some, Some, None, Option, unwrap_or, sym, refl, ap, ◌∙◌, subst, ⊎_elim, arith}
 use Rattle.filerules.specs.Fields.{terms_hold, holding_holds, leg_holds}
 use Rattle.filerules.specs.Said.{Said, start, put, parties_of, late, fields_hold, full, clash, held, held_before, first_failed, fault_of}
 use Rattle.records.specs.Records.{Fits}
 use Rattle.records.specs.declared.record.Statement.{Statement}
 use Rattle.records.specs.declared.record.Statement.TheVariants as states
-use Rattle.std.proofs.ByRecursion.{All-push}
+use Rattle.std.proofs.lemmas.List.Elements.{All-nil, All-push}
+use Rattle.std.proofs.lemmas.Option.{none-some}
 use Rattle.std.proofs.lemmas.List.{length_push, get_or_append_left, get_or_push}
-use Rattle.std.proofs.lemmas.Bool.{and_parts, or_parts, not-true, not-false, ltb-true, leb-true, leb-false, eqb-true, eqb-false, cases_eq, both_ways, eq-eqb}
-use Rattle.std.specs.List.{AllByRecursion}
+use Rattle.std.proofs.lemmas.Bool.{and_parts, or_parts, not-true, not-false, ltb-true, leb-true, leb-false, eqb-true, eqb-false, cases_eq, both_ways}
+use Rattle.std.specs.List.{All}
 use Rattle.swap.proofs.Bits as bits
-use Rattle.swap.specs.Assets.{holds_coins}
 use Rattle.swap.specs.Limits.{max_holdings, max_legs}
 use Rattle.swap.specs.Sets.{member}
 use Rattle.swap.specs.declared.faults.Reason.TheVariants.{OutOfOrder, BadField, TooMany, HeldTwice}
@@ -18,9 +18,6 @@ use Rattle.swap.specs.declared.records.Holding.{Holding}
 use Rattle.swap.specs.declared.records.Leg.{Leg}
 use Rattle.swap.specs.declared.records.Terms.{Terms}
 use Rattle.swapfile.specs.Files.{Content, complete, after, Lawful, Accepted}
-use Rattle.swapfile.specs.Reads.{content_of, Reading}
-use Rattle.swapfile.specs.declared.file.SwapFile.{SwapFile}
-use Rattle.swapfile.specs.declared.refusal.Refusal.{Refusal}
 use Rattle.swapfile.specs.Ruled.{RuledTerms, RuledHolding, RuledLeg, Apart, Ruled}
 
 -- a record that breaks no rule fails each test
@@ -28,10 +25,10 @@ module _ (s : Said) (r : Statement) where
   clean_by :
       (a b c d : Bool) → first_failed ((a, OutOfOrder) ∷ (not b, BadField) ∷ (c, TooMany) ∷ (d, HeldTwice) ∷ []) ≡ None
       → (a ≡ false) × (b ≡ true) × (c ≡ false) × (d ≡ false)
-  clean_by true b c d e = let z : ◌≡◌ {A = ℕ} 0 1 = cc in absurd (omega arith)
-  clean_by false false c d e = let z : ◌≡◌ {A = ℕ} 0 1 = cc in absurd (omega arith)
-  clean_by false true true d e = let z : ◌≡◌ {A = ℕ} 0 1 = cc in absurd (omega arith)
-  clean_by false true false true e = let z : ◌≡◌ {A = ℕ} 0 1 = cc in absurd (omega arith)
+  clean_by true b c d e = absurd (none-some _ (sym e))
+  clean_by false false c d e = absurd (none-some _ (sym e))
+  clean_by false true true d e = absurd (none-some _ (sym e))
+  clean_by false true false true e = absurd (none-some _ (sym e))
   clean_by false true false false e = (refl, refl, refl, refl)
 
   pub clean :
@@ -100,27 +97,11 @@ apart_push hs h a e i j d l m =
     ap (λ x. clash x (get_or (hs ++ h ∷ []) j d)) p ∙ ap (λ x. clash (get_or hs i d) x) (get_or_append_left hs (h ∷ []) d j jl) ∙ a i j d l jl)
     (cases_eq j (length hs))
 
-pub coins_apart : (k h : Holding) → clash k h ≡ false → k.ledger ≡ h.ledger → holds_coins h.ledger ≡ true → k.party ≡ h.party → ⊥
-coins_apart k h e l c p =
-    let t : clash k h ≡ true =
-    ap (λ x. x && cond (holds_coins h.ledger) (eqb k.party h.party) (eqb k.asset h.asset)) (eq-eqb _ _ l)
-    ∙ ap (λ x. cond x (eqb k.party h.party) (eqb k.asset h.asset)) c
-    ∙ eq-eqb _ _ p in
-    both_ways (clash k h) e t
-
-pub titles_apart : (k h : Holding) → clash k h ≡ false → k.ledger ≡ h.ledger → holds_coins h.ledger ≡ false → k.asset ≡ h.asset → ⊥
-titles_apart k h e l c p =
-    let t : clash k h ≡ true =
-    ap (λ x. x && cond (holds_coins h.ledger) (eqb k.party h.party) (eqb k.asset h.asset)) (eq-eqb _ _ l)
-    ∙ ap (λ x. cond x (eqb k.party h.party) (eqb k.asset h.asset)) c
-    ∙ eq-eqb _ _ p in
-    both_ways (clash k h) e t
-
 -- what holds of all that is said
 abbrev KeptBy : Option Terms → List Holding → List Leg → Type 0
 KeptBy None hs ls = (hs ≡ []) × (ls ≡ [])
 KeptBy (Some t) hs ls =
-    RuledTerms t × AllByRecursion (RuledHolding t.parties) hs × AllByRecursion (RuledLeg t.parties) ls × (length hs ≤ max_holdings)
+    RuledTerms t × All (RuledHolding t.parties) hs × All (RuledLeg t.parties) ls × (length hs ≤ max_holdings)
     × (length ls ≤ max_legs) × Apart hs
 
 abbrev Kept : Said → Type 0
@@ -132,8 +113,8 @@ none_apart i j d l m = absurd (omega arith)
 with_terms : (o : Option Terms) (hs : List Holding) (ls : List Leg) (t : Terms) → is_some o ≡ false → RuledTerms t → KeptBy o hs ls → KeptBy (Some t) hs ls
 with_terms None hs ls t e r k = (
   r,
-  subst (AllByRecursion (RuledHolding t.parties)) (sym k.0) tt,
-  subst (AllByRecursion (RuledLeg t.parties)) (sym k.1) tt,
+  subst (All (RuledHolding t.parties)) (sym k.0) (All-nil (RuledHolding t.parties)),
+  subst (All (RuledLeg t.parties)) (sym k.1) (All-nil (RuledLeg t.parties)),
   omega (arith, ap length k.0),
   omega (arith, ap length k.1),
   subst Apart (sym k.0) none_apart,
@@ -187,8 +168,8 @@ kept s [] l k = k
 kept s (r ∷ rs) l k = kept (put s r) rs l.2 (step s r l.0 l.1 k)
 
 ruled_by : (n : Option ℕ) (o : Option Terms) (hs : List Holding) (ls : List Leg) (c : Content) → complete n o hs ls ≡ Some c → KeptBy o hs ls → Ruled c
-ruled_by n None hs ls c e k = let z : ◌≡◌ {A = ℕ} 0 1 = cc in absurd (omega arith)
-ruled_by n (Some t) hs [] c e k = let z : ◌≡◌ {A = ℕ} 0 1 = cc in absurd (omega arith)
+ruled_by n None hs ls c e k = absurd (none-some _ e)
+ruled_by n (Some t) hs [] c e k = absurd (none-some _ e)
 ruled_by n (Some t) hs (l ∷ ls) c e k =
     let q : record { number = unwrap_or n 0; terms = t; holdings = hs; legs = l ∷ ls } ≡ c = cc in
     subst Ruled q
@@ -207,13 +188,3 @@ pub ruled : (bytes : List ℕ) (c : Content) → Accepted bytes c → Ruled c
 ruled bytes c h =
     let s = after start h.records in
     ruled_by s.number s.terms s.holdings s.legs c h.says (kept start h.records h.lawful (refl, refl))
-
--- so what `read` answers is too
-ruled_read : (bytes : List ℕ) (r : Result SwapFile Refusal) → Reading bytes r → IfOk r (λ f. Ruled (content_of f))
-ruled_read bytes (Ok f) h = ruled bytes (content_of f) h
-ruled_read bytes (Err f) h = tt
-
-pub both :
-    (bytes : List ℕ) (r : Result SwapFile Refusal) → Reading bytes r
-    → record { answer : Reading bytes r; ruled : IfOk r (λ f. Ruled (content_of f)) }
-both bytes r h = record { answer = h; ruled = ruled_read bytes r h }

@@ -1,5 +1,5 @@
 -- Reading record by record.
-use Rattle.std.proofs.Common.{◌≡◌, ℕ, ◌-◌, ◌<◌, ◌≤◌, false, ◌||◌, eqb, ltb, List, [], ◌∷◌, ◌++◌, length, drop, Some, None, Ok, Err, Option, Result, sym, refl, ap, ◌∙◌, subst, inr, append_assoc, arith}
+use Rattle.std.proofs.Common.{◌≡◌, ℕ, ◌≤◌, false, ◌||◌, eqb, ltb, List, [], ◌∷◌, ◌++◌, length, drop, Some, None, Ok, Err, Option, Result, sym, refl, ap, ◌∙◌, subst, inr, append_assoc, arith}
 use Rattle.filerules.specs.Said.{Said, start, put, fault_of}
 use Rattle.records.specs.Reading.{Next}
 use Rattle.records.specs.Records.{encode, Fits, record_kind, record_body, States}
@@ -31,23 +31,15 @@ sized bytes e =
     (omega (arith, ne), ltb-false max_file (length bytes) p.1)
 
 -- what `next` found
-pub found_some :
-    (source : List ℕ) (at at' : ℕ) (o : Option (ℕ × Record)) (p : ℕ × Record) → o ≡ Some p → Next source at at' (Ok o)
-    → Next source at at' (Ok (Some p))
-found_some source at at' o p e h = subst (λ x. Next source at at' (Ok x)) e h
-
-pub found_none :
-    (source : List ℕ) (at at' : ℕ) (o : Option (ℕ × Record)) → o ≡ None → Next source at at' (Ok o) → Next source at at' (Ok None)
-found_none source at at' o e h = subst (λ x. Next source at at' (Ok x)) e h
+pub found_as :
+    (source : List ℕ) (at at' : ℕ) (o o' : Option (ℕ × Record)) → o ≡ o' → Next source at at' (Ok o) → Next source at at' (Ok o')
+found_as source at at' o o' e h = subst (λ x. Next source at at' (Ok x)) e h
 
 -- a refusal passed on by `?`
 pub passed :
     (bytes : List ℕ) (r : Result SwapFile Refusal) (y : Refusal) (f : Fault) → r ≡ Err y → y ≡ refusal.Fault f
     → Refused bytes f → Reading bytes r
 passed bytes r y f e g h = subst (λ x. Reading bytes x) (sym (e ∙ ap Err g)) (inr h)
-
-pub begin : (bytes source : List ℕ) → source ≡ bytes → SoFar bytes source 0 start
-begin bytes source e = record { same = e; records = []; encoded = sym e; lawful = tt; says = refl }
 
 after_push : (s : Said) (rs : List Statement) (r : Statement) → after s (rs ++ r ∷ []) ≡ put (after s rs) r
 after_push s [] r = refl
@@ -82,19 +74,6 @@ module _ (bytes source : List ℕ) (at : ℕ) (s : Said) (h : SoFar bytes source
         says = after_push start h.records st ∙ ap (λ x. put x st) h.says ∙ sym p;
       }
 
-  pub less :
-      (source' : List ℕ) (at' : ℕ) (r : Record) → source' ≡ source → record_kind r ∷ record_body r ++ drop at' source ≡ drop at source
-      → length source' - at' < length source - at
-  less source' at' r e found =
-      omega (
-        arith,
-        ap length e,
-        ap length found,
-        length-append (record_body r) (drop at' source),
-        length-drop at' source,
-        length-drop at source,
-      )
-
   module _ (inside : at ≤ length source) (sized : Sized bytes) where
     ended_at : at ≡ length (flat_map encode h.records)
     ended_at =
@@ -118,7 +97,7 @@ module _ (bytes source : List ℕ) (at : ℕ) (s : Said) (h : SoFar bytes source
           stuck = subst (λ x. Stuck x (drop at source) f.reason) (sym h.says) st;
         }
 
-    -- a record that breaks a rule, or for which memory is wanting
+    -- a record that breaks a rule, or for which memory runs out
     pub turned_down :
         (place at' : ℕ) (s' : Said) (r : Record) → place ≡ at → record_kind r ∷ record_body r ++ drop at' source ≡ drop at source
         → (x : Result SwapFile Refusal) (y z : Refusal) → x ≡ Err y → y ≡ z → Taken s place r s' (Err z) → Reading bytes x

@@ -1,15 +1,15 @@
 -- Every string of bytes has an answer.
 use Rattle.std.proofs.Common.{◌≡◌, ℕ, zero, suc, ◌+◌, ◌*◌, ◌^◌, ◌<◌, ◌≤◌, Bool, true, false, cond, eqb, ◌⊎◌, List, [], ◌∷◌, ◌++◌, length, take, drop, Some, None, Ok, Err, Option, Result, sym, refl, ap, ◌∙◌, subst, inl, inr, ⊎_elim, append_assoc, arith}
 use Rattle.filerules.specs.Said.{Said, start, put, fault_of}
-use Rattle.records.proofs.Bytes.{at, number_holds, terms_hold, holding_holds, leg_holds}
+use Rattle.swapfile.proofs.Bytes.{at, number_holds, terms_hold, holding_holds, leg_holds}
 use Rattle.records.specs.Reading.{Unread, unknown, short}
 use Rattle.records.specs.Records.{bytes4, kind_of, encode, body_of, body_size, Fits, Holds}
 use Rattle.records.specs.declared.record.Statement.{Statement}
 use Rattle.records.specs.declared.record.Statement.TheVariants as states
-use Rattle.std.proofs.ByRecursion.{All-get_or, All-take, All-drop}
+use Rattle.std.proofs.lemmas.List.Elements.{All-get_or, All-tail, All-take, All-drop}
 use Rattle.std.proofs.lemmas.List.{append-nil, take-append-drop, length-append, length-take-le, length-drop, take_rest, drop_at}
 use Rattle.std.proofs.lemmas.Bool.{eqb-true, cases_lt}
-use Rattle.std.specs.List.{flat_map, AllByRecursion}
+use Rattle.std.specs.List.{flat_map, All}
 use Rattle.swap.specs.Limits.{max_file}
 use Rattle.swap.specs.declared.faults.Fault.{Fault}
 use Rattle.swap.specs.declared.faults.Reason.{Reason}
@@ -21,7 +21,7 @@ abbrev Byte : ℕ → Type 0
 Byte b = b < 256
 
 -- a list of four bytes is a number's
-number : (xs : List ℕ) → length xs ≡ 4 → AllByRecursion Byte xs → (n : ℕ) × (bytes4 n ≡ xs) × (n < 2 ^ 32)
+number : (xs : List ℕ) → length xs ≡ 4 → All Byte xs → (n : ℕ) × (bytes4 n ≡ xs) × (n < 2 ^ 32)
 number xs l a =
     let p : Byte (at xs 0) = All-get_or Byte xs 0 0 (omega arith) a in
     let q : Byte (at xs 1) = All-get_or Byte xs 1 0 (omega arith) a in
@@ -34,10 +34,10 @@ number xs l a =
 abbrev Body : ℕ → List ℕ → Type 0
 Body kind xs = (r : Statement) × (kind_of r ≡ kind) × Holds xs r
 
-heading_of : (xs : List ℕ) → length xs ≡ 4 → AllByRecursion Byte xs → Body 1 xs
+heading_of : (xs : List ℕ) → length xs ≡ 4 → All Byte xs → Body 1 xs
 heading_of xs l a = let m = number xs l a in (states.Heading m.0, refl, (m.1, m.2))
 
-terms_of : (xs : List ℕ) → length xs ≡ 4 → AllByRecursion Byte xs → Body 2 xs
+terms_of : (xs : List ℕ) → length xs ≡ 4 → All Byte xs → Body 2 xs
 terms_of xs l a =
     let p : Byte (at xs 0) = All-get_or Byte xs 0 0 (omega arith) a in
     let q : Byte (at xs 1) = All-get_or Byte xs 1 0 (omega arith) a in
@@ -48,7 +48,7 @@ terms_of xs l a =
       (terms_hold xs (at xs 1) (at xs 2) l refl refl, (p, q, r, s)),
     )
 
-holding_of : (xs : List ℕ) → length xs ≡ 6 → AllByRecursion Byte xs → Body 3 xs
+holding_of : (xs : List ℕ) → length xs ≡ 6 → All Byte xs → Body 3 xs
 holding_of xs l a =
     let p : Byte (at xs 0) = All-get_or Byte xs 0 0 (omega arith) a in
     let q : Byte (at xs 1) = All-get_or Byte xs 1 0 (omega arith) a in
@@ -58,7 +58,7 @@ holding_of xs l a =
       (holding_holds xs m.0 (omega arith) (m.1 ∙ sym (take_rest xs 2)), (p, q, m.2)),
     )
 
-leg_of : (xs : List ℕ) → length xs ≡ 7 → AllByRecursion Byte xs → Body 4 xs
+leg_of : (xs : List ℕ) → length xs ≡ 7 → All Byte xs → Body 4 xs
 leg_of xs l a =
     let p : Byte (at xs 0) = All-get_or Byte xs 0 0 (omega arith) a in
     let q : Byte (at xs 1) = All-get_or Byte xs 1 0 (omega arith) a in
@@ -75,8 +75,8 @@ data Seen (k : ℕ) (t : List ℕ) : Type 0 where
   fails : (x : Reason) → Unread k t x → Seen k t
 
 from_body :
-    (k n : ℕ) (t : List ℕ) → body_size k ≡ Some n → AllByRecursion Byte t
-    → ((xs : List ℕ) → length xs ≡ n → AllByRecursion Byte xs → Body k xs) → Seen k t
+    (k n : ℕ) (t : List ℕ) → body_size k ≡ Some n → All Byte t
+    → ((xs : List ℕ) → length xs ≡ n → All Byte xs → Body k xs) → Seen k t
 from_body k n t e a f =
     ⊎_elim (λ lt. fails CutShort (short n e lt refl))
     (λ ge.
@@ -85,7 +85,7 @@ from_body k n t e a f =
     gets x.0 (drop n t) (λ i. sym x.1 i ∷ p i) x.2.1)
     (cases_lt (length t) n)
 
-see : (k : ℕ) (t : List ℕ) → AllByRecursion Byte t → Seen k t
+see : (k : ℕ) (t : List ℕ) → All Byte t → Seen k t
 see k t a = go (eqb k 1) (eqb k 2) (eqb k 3) (eqb k 4) refl refl refl refl
   where
     go : (b c d e : Bool) → eqb k 1 ≡ b → eqb k 2 ≡ c → eqb k 3 ≡ d → eqb k 4 ≡ e → Seen k t
@@ -127,8 +127,8 @@ one_more s r t bytes e f g w =
     }
 
 onward :
-    (s : Said) (k : ℕ) (t : List ℕ) → AllByRecursion Byte (k ∷ t)
-    → ((s' : Said) (t' : List ℕ) → length t' ≤ length t → AllByRecursion Byte t' → Way s' t') → Seen k t → Way s (k ∷ t)
+    (s : Said) (k : ℕ) (t : List ℕ) → All Byte (k ∷ t)
+    → ((s' : Said) (t' : List ℕ) → length t' ≤ length t → All Byte t' → Way s' t') → Seen k t → Way s (k ∷ t)
 onward s k t a more (fails x u) = at_once s (k ∷ t) (inr (x, unread k t refl u))
 onward s k t a more (gets r t' e f) = judged (fault_of s r) refl
   where
@@ -136,14 +136,14 @@ onward s k t a more (gets r t' e f) = judged (fault_of s r) refl
     judged (Some x) q = at_once s (k ∷ t) (inr (x, broken r t' e f q))
     judged None q =
         let l : length t' ≤ length t = omega (arith, ap length e, length-append (body_of r) t') in
-        let b : AllByRecursion Byte (drop (length (encode r)) (encode r ++ t')) = All-drop Byte (length (encode r)) (encode r ++ t') (subst (AllByRecursion Byte) e a) in
-        one_more s r t' (k ∷ t) e f q (more (put s r) t' l (subst (AllByRecursion Byte) (drop_at (encode r) t' _ refl) b))
+        let b : All Byte (drop (length (encode r)) (encode r ++ t')) = All-drop Byte (length (encode r)) (encode r ++ t') (subst (All Byte) e a) in
+        one_more s r t' (k ∷ t) e f q (more (put s r) t' l (subst (All Byte) (drop_at (encode r) t' _ refl) b))
 
-way : (fuel : ℕ) (s : Said) (bytes : List ℕ) → length bytes ≤ fuel → AllByRecursion Byte bytes → Way s bytes
+way : (fuel : ℕ) (s : Said) (bytes : List ℕ) → length bytes ≤ fuel → All Byte bytes → Way s bytes
 way zero s [] l a = at_end s (whole s) refl
 way zero s (k ∷ t) l a = absurd (omega arith)
 way (suc fuel) s [] l a = at_end s (whole s) refl
-way (suc fuel) s (k ∷ t) l a = onward s k t a (λ s' t' m b. way fuel s' t' (omega arith) b) (see k t a.1)
+way (suc fuel) s (k ∷ t) l a = onward s k t a (λ s' t' m b. way fuel s' t' (omega arith) b) (see k t (All-tail Byte k t a))
 
 answered : (bytes : List ℕ) → Sized bytes → Way start bytes → (a : Result Content Fault) × Answer bytes a
 answered bytes z w = go w.final

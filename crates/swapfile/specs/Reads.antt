@@ -25,7 +25,7 @@ abbrev pub Finished : Said → ℕ → Result SwapFile Fault → Type 0
 Finished s end (Ok f) = whole s ≡ Some (content_of f)
 Finished s end (Err f) = (whole s ≡ None) × (f ≡ record { reason = Missing; place = end })
 
--- what a reading answers: the one answer of the rules, unless memory is wanting
+-- what a reading answers: the one answer of the rules, unless memory runs out
 abbrev pub Reading : List ℕ → Result SwapFile Refusal → Type 0
 Reading bytes (Ok f) = Answer bytes (Ok (content_of f))
 Reading bytes (Err (refusal.Fault f)) = Answer bytes (Err f)

@@ -1,7 +1,7 @@
 -- What holds of an accepted file's content.
 use Rattle.std.specs.Prelude.{◌≡◌, ℕ, ◌<◌, ◌≤◌, List, length, slice_index_or, IsTrue, IsFalse}
 use Rattle.filerules.specs.Said.{clash}
-use Rattle.std.specs.List.{AllByRecursion}
+use Rattle.std.specs.List.{All}
 use Rattle.swap.specs.Assets.{asset_on}
 use Rattle.swap.specs.Limits.{min_parties, max_parties, max_delta, max_holdings, max_legs, file_ledgers}
 use Rattle.swap.specs.Sets.{member}
@@ -37,8 +37,8 @@ Apart hs = (i j : ℕ) (d : Holding) → i < j → j < length hs → IsFalse (cl
 
 pub record Ruled (c : Content) : Type 0 where
   pub terms : RuledTerms c.terms
-  pub holdings : AllByRecursion (RuledHolding c.terms.parties) c.holdings
-  pub legs : AllByRecursion (RuledLeg c.terms.parties) c.legs
+  pub holdings : All (RuledHolding c.terms.parties) c.holdings
+  pub legs : All (RuledLeg c.terms.parties) c.legs
   pub holdings_most : length c.holdings ≤ max_holdings
   pub legs_some : 1 ≤ length c.legs
   pub legs_most : length c.legs ≤ max_legs

@@ -4,7 +4,7 @@ use Rattle.filerules.specs.Said.{start}
 use Rattle.records.specs.Records.{encode}
 use Rattle.records.specs.declared.record.Statement.{Statement}
 use Rattle.records.specs.declared.record.Statement.TheVariants.{Heading}
-use Rattle.std.specs.List.{flat_map, AllByRecursion}
+use Rattle.std.specs.List.{flat_map, All}
 use Rattle.swap.specs.declared.faults.Fault.{Fault}
 use Rattle.swapfile.specs.Files.{Content, whole, after, Lawful, Sized, Answer}
 
@@ -14,7 +14,7 @@ OneAnswer = (bytes : List ℕ) (a b : Result Content Fault) → Answer bytes a �
 
 -- every string of bytes has an answer
 abbrev pub SomeAnswer : Type 0
-SomeAnswer = (bytes : List ℕ) → AllByRecursion (λ b. b < 256) bytes → (a : Result Content Fault) × Answer bytes a
+SomeAnswer = (bytes : List ℕ) → All (λ b. b < 256) bytes → (a : Result Content Fault) × Answer bytes a
 
 -- the one answer to the encodings of a lawful file is what its records say
 abbrev pub ReadsBack : Type 0

@@ -27,7 +27,7 @@ pub struct SwapFile {
 fn is_unsized(len: usize) -> bool
     ensures { result ≡ (len == 0 || nat_lt max_file len) }
 {
-    len == 0 || len > MAX_FILE
+    !(1..=MAX_FILE).contains(&len)
 }
 
 // Takes the record at `at` into the draft, or says which rule it breaks and leaves the draft as it is.
@@ -35,11 +35,9 @@ fn take_in(draft: &mut Draft, at: usize, record: Record) -> Result<(), Refusal>
     requires { Formed «record» }
     ensures { Taken (said draft.old) at «record».entry (said draft.new) result }
 {
-    let Some(statement) = record.stated() else {
-        unreachable()
-    };
+    let statement = record.stated().unwrap();
     if let Some(reason) = draft.judge(&statement) {
-        return Err(Refusal::Fault(Fault { reason, place: at }));
+        return Err(reason.at(at).into());
     }
     draft.put(statement)?;
     Ok(())
@@ -50,11 +48,11 @@ fn finish(draft: Draft, end: usize) -> Result<SwapFile, Fault>
     ensures { Finished (said draft) end result }
 {
     let Draft {
-        ahead: _,
         number,
         terms,
         holdings,
         legs,
+        ..
     } = draft;
     match terms {
         Some(terms) if !legs.is_empty() => Ok(SwapFile {
@@ -63,10 +61,7 @@ fn finish(draft: Draft, end: usize) -> Result<SwapFile, Fault>
             holdings,
             legs,
         }),
-        _ => Err(Fault {
-            reason: Reason::Missing,
-            place: end,
-        }),
+        _ => Err(Reason::Missing.at(end)),
     }
 }
 
@@ -76,10 +71,7 @@ pub fn read(heap: Global, bytes: &[u8]) -> Result<SwapFile, Refusal>
     ensures ruled { IfOk result (λ f. Ruled (content_of f)) }
 {
     if is_unsized(bytes.len()) {
-        return Err(Refusal::Fault(Fault {
-            reason: Reason::FileSize,
-            place: 0,
-        }));
+        return Err(Reason::FileSize.at(0).into());
     }
     let mut reader = Reader::new(bytes);
     let mut draft = Draft::new(heap);

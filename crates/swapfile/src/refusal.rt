@@ -3,14 +3,18 @@ ghost use Rattle.swapfile.specs.declared.refusal.Refusal.TheVariants.{Fault as f
 
 use std::alloc::{AllocError, AllocFailed};
 use swap::faults::Fault;
+use thiserror::Error;
 
-// Why there is no answer: a rule is broken, or memory is wanting.
-#[derive(Clone, Copy, PartialEq, Eq, Debug)]
+// Why there is no answer: a rule is broken, or memory ran out.
+#[derive(Clone, Copy, PartialEq, Eq, Debug, Error)]
 pub enum Refusal {
+    #[error("{0}")]
     Fault(Fault),
+    #[error("out of memory")]
     Memory,
 }
 
+// Each conversion is by hand, since contracts name the refusal that it makes.
 impl From<Fault> for Refusal {
     ghost from_gives = { λ f r. r ≡ faulty f };
 

@@ -3,7 +3,8 @@ ghost use Rattle.ledgers.specs.Calls.{Cleared};
 ghost use Rattle.ledgers.specs.Rows.{stock_of};
 
 use crate::ledger::TitleLedger;
-use ledgers::four::{FourLedgers, LEDGERS};
+use ledgers::four::{FourLedgers, empty_book};
+use ledgers::kinds::Titles;
 
 // The holder of each title, on each ledger.
 pub type TitleBook = FourLedgers<TitleLedger>;
@@ -12,6 +13,5 @@ pub type TitleBook = FourLedgers<TitleLedger>;
 pub fn title_book() -> TitleBook
     ensures { Cleared (stock_of titles_on result.ledgers) }
 {
-    let ledger = TitleLedger::new();
-    FourLedgers::of([ledger; LEDGERS])
+    empty_book::<Titles, TitleLedger>()
 }

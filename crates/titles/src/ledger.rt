@@ -6,6 +6,7 @@ use swap::records::Holder;
 
 pub mod calls;
 
+// places of a table that has one for each title; usize has no `From` of u32, and a constant calls no `try_from`
 const COUNT: usize = TITLES as usize;
 
 // One ledger of titles: who holds each. A title's holder is a party or an escrow account that exists.

@@ -10,48 +10,34 @@ use titles::book::{TitleBook, title_book};
 // the ledger that is shown
 const LEDGER: u8 = 2;
 
-fn words(refusal: Refusal) -> &'static str {
-    match refusal {
-        Refusal::OutOfRange => "refused: out of range",
-        Refusal::OverCeiling => "refused: over the ceiling",
-        Refusal::AccountTaken => "refused: account taken",
-        Refusal::TooLittle => "refused: too little",
-        Refusal::AccountEmpty => "refused: account empty",
-    }
-}
-
-fn told(answer: Result<(), Refusal>) -> &'static str {
+// Prints what a book answered to a call.
+fn show_answer(rt: &HostRuntime, call: &str, answer: Result<(), Refusal>) -> io::Result<()> {
     match answer {
-        Ok(()) => "accepted",
-        Err(refusal) => words(refusal),
+        Ok(()) => println!(rt; "{call}: accepted"),
+        Err(refusal) => println!(rt; "{call}: refused: {refusal}"),
     }
 }
 
 fn show_balance<K: Kind, B: Ledgers<K>>(
     rt: &HostRuntime,
     book: &B,
-    who: &str,
     holder: Holder,
     unit: u32,
 ) -> io::Result<()> {
     match book.balance(LEDGER, holder, unit) {
-        Ok(count) => println!(rt; "{who} has {count}"),
-        Err(refusal) => {
-            let why = words(refusal);
-            println!(rt; "{who}: {why}")
-        }
+        Ok(count) => println!(rt; "{holder} has {count}"),
+        Err(refusal) => println!(rt; "{holder}: refused: {refusal}"),
     }
 }
 
 // Credits the asset to party 1 until the book refuses.
 fn fill<K: Kind, B: Ledgers<K>>(rt: &HostRuntime, book: &mut B, asset: u32) -> io::Result<()> {
-    let mut times = 0u32;
-    for _ in 0..100 {
+    for times in 0..100 {
         if let Err(refusal) = book.credit(LEDGER, 1, asset) {
-            let why = words(refusal);
-            return println!(rt; "credit to party 1: accepted, times {times}, then {why}");
+            return println!(rt;
+                "credit to party 1: accepted, times {times}, then refused: {refusal}"
+            );
         }
-        times = times.saturating_add(1);
     }
     Ok(())
 }
@@ -63,24 +49,25 @@ fn show<K: Kind, B: Ledgers<K>>(
     unit: u32,
 ) -> io::Result<()> {
     fill::<K, B>(rt, book, asset)?;
-    let answer = told(book.credit(4, 1, asset));
-    println!(rt; "credit on ledger 4: {answer}")?;
-    let answer = told(book.deposit(LEDGER, 1, 5, asset));
-    println!(rt; "deposit by party 1 into account 5: {answer}")?;
-    let answer = told(book.deposit(LEDGER, 3, 6, asset));
-    println!(rt; "deposit by party 3 into account 6: {answer}")?;
-    let answer = told(book.deposit(LEDGER, 1, 5, asset));
-    println!(rt; "deposit by party 1 into account 5: {answer}")?;
-    show_balance::<K, B>(rt, book, "account 5", Holder::Escrow(5), unit)?;
-    let answer = told(book.release(LEDGER, 6, 2));
-    println!(rt; "release of account 6 to party 2: {answer}")?;
-    let answer = told(book.release(LEDGER, 5, 2));
-    println!(rt; "release of account 5 to party 2: {answer}")?;
-    show_balance::<K, B>(rt, book, "party 1", Holder::Party(1), unit)?;
-    show_balance::<K, B>(rt, book, "party 2", Holder::Party(2), unit)?;
-    show_balance::<K, B>(rt, book, "account 24", Holder::Escrow(24), unit)?;
+    let answer = book.credit(4, 1, asset);
+    show_answer(rt, "credit on ledger 4", answer)?;
+    let answer = book.deposit(LEDGER, 1, 5, asset);
+    show_answer(rt, "deposit by party 1 into account 5", answer)?;
+    let answer = book.deposit(LEDGER, 3, 6, asset);
+    show_answer(rt, "deposit by party 3 into account 6", answer)?;
+    let answer = book.deposit(LEDGER, 1, 5, asset);
+    show_answer(rt, "deposit by party 1 into account 5", answer)?;
+    show_balance::<K, B>(rt, book, Holder::Escrow(5), unit)?;
+    let answer = book.release(LEDGER, 6, 2);
+    show_answer(rt, "release of account 6 to party 2", answer)?;
+    let answer = book.release(LEDGER, 5, 2);
+    show_answer(rt, "release of account 5 to party 2", answer)?;
+    show_balance::<K, B>(rt, book, Holder::Party(1), unit)?;
+    show_balance::<K, B>(rt, book, Holder::Party(2), unit)?;
+    show_balance::<K, B>(rt, book, Holder::Escrow(24), unit)?;
     book.clear();
-    show_balance::<K, B>(rt, book, "after clear party 2", Holder::Party(2), unit)
+    print!(rt; "after clear ")?;
+    show_balance::<K, B>(rt, book, Holder::Party(2), unit)
 }
 
 pub(crate) fn show_books(rt: &HostRuntime) -> io::Result<()> {

@@ -1,106 +1,50 @@
 // Shows what the shipped mempools accept, refuse and hand out.
 ghost use Rattle.std.specs.Prelude.{◌≡◌, [], OnOk};
 
-use anyhow::anyhow;
 use mempool::delivery::drain;
 use mempool::pool::Mempool;
 use mempool::prompt::Prompt;
-use mempool::refusal::Refusal;
 use mempool::slow::Slow;
+use std::io;
 use swap::limits::MAX_LINES;
 use swap::records::Waiting;
 
 const DELTA: u32 = 2;
 
-const FILED: [Waiting; 5] = [
+fn filed(number: u32, filer: u8, tick: u32) -> Waiting {
     Waiting {
-        number: 4,
-        filer: 0,
-        tick: 1,
-    },
-    Waiting {
-        number: 2,
-        filer: 1,
-        tick: 1,
-    },
-    Waiting {
-        number: 9,
-        filer: 2,
-        tick: 0,
-    },
-    Waiting {
-        number: 6,
-        filer: 0,
-        tick: 2,
-    },
-    Waiting {
-        number: 2,
-        filer: 2,
-        tick: 2,
-    },
-];
-
-fn in_words(verdict: Result<(), Refusal>) -> &'static str {
-    match verdict {
-        Ok(()) => "accepted",
-        Err(Refusal::Full) => "refused, the mempool is full",
-        Err(Refusal::Duplicate) => "refused, that number waits already",
+        number,
+        filer,
+        tick,
     }
 }
 
-fn offer<M: Mempool>(rt: &HostRuntime, pool: &mut M, w: Waiting) -> anyhow::Result<()> {
-    let verdict = in_words(pool.submit(w));
-    println!(rt;
-        "number {} of party {}, filed at tick {}: {verdict}",
-        w.number, w.filer, w.tick
-    )?;
-    Ok(())
+fn offer<M: Mempool>(rt: &HostRuntime, pool: &mut M, w: Waiting) -> io::Result<()> {
+    match pool.submit(w) {
+        Ok(()) => println!(rt; "{w}: accepted"),
+        Err(refusal) => println!(rt; "{w}: refused, {refusal}"),
+    }
 }
 
 fn deliver<M: Mempool>(rt: &HostRuntime, pool: &mut M, tick: u32) -> anyhow::Result<()> {
-    let Ok(taken) = drain(rt.alloc(), pool, tick, DELTA) else {
-        return Err(anyhow!("out of memory"));
-    };
+    let taken = drain(rt.alloc(), pool, tick, DELTA)?;
     if taken.is_empty() {
         println!(rt; "tick {tick}: nothing")?;
     }
     for w in taken.iter() {
-        println!(rt;
-            "tick {tick}: number {} of party {}, filed at tick {}",
-            w.number, w.filer, w.tick
-        )?;
+        println!(rt; "tick {tick}: {w}")?;
     }
     Ok(())
 }
 
 // As many as may wait, and then one more, twice.
-fn fill<M: Mempool>(rt: &HostRuntime, pool: &mut M) -> anyhow::Result<()> {
-    let filer = 3;
-    let tick = 6;
-    let mut accepted = 0u32;
-    for number in 0..MAX_LINES as u32 {
-        if pool
-            .submit(Waiting {
-                number,
-                filer,
-                tick,
-            })
-            .is_ok()
-        {
-            accepted = accepted.saturating_add(1);
-        }
-    }
+fn fill<M: Mempool>(rt: &HostRuntime, pool: &mut M) -> io::Result<()> {
+    let accepted = (0..MAX_LINES as u32)
+        .filter(|&number| pool.submit(filed(number, 3, 6)).is_ok())
+        .count();
     println!(rt; "{accepted} more: accepted")?;
     for number in [1000, 0] {
-        offer(
-            rt,
-            pool,
-            Waiting {
-                number,
-                filer,
-                tick,
-            },
-        )?;
+        offer(rt, pool, filed(number, 3, 6))?;
     }
     Ok(())
 }
@@ -109,7 +53,14 @@ fn fill<M: Mempool>(rt: &HostRuntime, pool: &mut M) -> anyhow::Result<()> {
 fn rehearse<M: Mempool>(rt: &HostRuntime, pool: &mut M) -> anyhow::Result<()>
     ensures { OnOk result (M.Mempool.waiting pool.new ≡ []) }
 {
-    for w in FILED {
+    let some = [
+        filed(4, 0, 1),
+        filed(2, 1, 1),
+        filed(9, 2, 0),
+        filed(6, 0, 2),
+        filed(2, 2, 2),
+    ];
+    for w in some {
         offer(rt, pool, w)?;
     }
     for tick in 2..6 {

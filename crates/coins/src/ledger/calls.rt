@@ -1,35 +1,32 @@
-ghost use Rattle.std.specs.Prelude.{◌≡◌, ℕ, ◌+◌, sum};
+ghost use Rattle.std.specs.Prelude.{◌≡◌, ◌+◌, sum};
 ghost use Rattle.coins.specs.Coins.{coins_on};
-ghost use Rattle.swap.specs.Assets.{coin_asset};
-ghost use Rattle.swap.specs.declared.records.Holder.{Holder};
+ghost use Rattle.ledgers.specs.Stocks.{total};
 
-use crate::ledger::{CoinLedger, PARTIES};
-use ledgers::books::Ledger;
+use crate::ledger::CoinLedger;
+use ledgers::books::{EmptyLedger, Ledger};
 use ledgers::kinds::Coins;
+use ledgers::places::{account_place, party_place};
 use ledgers::refusals::Refusal;
-use swap::limits::{COIN_CEILING, MAX_COINS, MAX_LEGS, MAX_PARTIES};
+use swap::assets::is_coins;
+use swap::limits::{COIN_CEILING, MAX_LEGS, PARTIES};
 use swap::records::Holder;
 
-fn is_asset(asset: u32) -> bool
-    ensures { result ≡ coin_asset asset }
-{
-    1 <= asset && asset <= MAX_COINS
+impl CoinLedger {
+    #[tactic(auto, using(crate::proofs::Held::total_held))]
+    fn total(&self) -> u32
+        ensures sums { result ≡ sum self.now.parties + sum self.now.accounts }
+        ensures total { result ≡ total (coins_on self.now) 0 }
+    {
+        self.parties.iter().sum::<u32>() + self.accounts.iter().sum::<u32>()
+    }
 }
 
-impl CoinLedger {
-    pub fn new() -> CoinLedger
-        ensures { (h : Holder) (u : ℕ) → coins_on result h u ≡ 0 }
-    {
+impl EmptyLedger<Coins> for CoinLedger {
+    fn empty() -> Self {
         CoinLedger {
             parties: [0; PARTIES],
             accounts: [0; MAX_LEGS],
         }
-    }
-
-    fn total(&self) -> u32
-        ensures { result ≡ sum self.now.parties + sum self.now.accounts }
-    {
-        self.parties.iter().sum::<u32>() + self.accounts.iter().sum::<u32>()
     }
 }
 
@@ -37,46 +34,47 @@ impl Ledger<Coins> for CoinLedger {
     ghost counts = { coins_on };
 
     fn clear(&mut self) {
-        self.parties = [0; PARTIES];
-        self.accounts = [0; MAX_LEGS];
+        *self = CoinLedger::empty();
     }
 
     fn credit(&mut self, party: u8, asset: u32) -> Result<(), Refusal> {
-        if party >= MAX_PARTIES || !is_asset(asset) {
+        let party = party_place(party)?;
+        if !is_coins(asset) {
             return Err(Refusal::OutOfRange);
         }
         if asset > COIN_CEILING - self.total() {
             return Err(Refusal::OverCeiling);
         }
-        self.parties[party as usize] += asset;
+        self.parties[party] += asset;
         Ok(())
     }
 
     fn deposit(&mut self, party: u8, account: u8, asset: u32) -> Result<(), Refusal> {
-        if party >= MAX_PARTIES || account as usize >= MAX_LEGS || !is_asset(asset) {
+        let party = party_place(party)?;
+        let account = account_place(account)?;
+        if !is_coins(asset) {
             return Err(Refusal::OutOfRange);
         }
-        if self.accounts[account as usize] > 0 {
+        if self.accounts[account] > 0 {
             return Err(Refusal::AccountTaken);
         }
-        if self.parties[party as usize] < asset {
+        if self.parties[party] < asset {
             return Err(Refusal::TooLittle);
         }
-        self.parties[party as usize] -= asset;
-        self.accounts[account as usize] += asset;
+        self.parties[party] -= asset;
+        self.accounts[account] += asset;
         Ok(())
     }
 
     fn release(&mut self, account: u8, party: u8) -> Result<(), Refusal> {
-        if account as usize >= MAX_LEGS || party >= MAX_PARTIES {
-            return Err(Refusal::OutOfRange);
-        }
-        let content = self.accounts[account as usize];
+        let account = account_place(account)?;
+        let party = party_place(party)?;
+        let content = self.accounts[account];
         if content == 0 {
             return Err(Refusal::AccountEmpty);
         }
-        self.parties[party as usize] += content;
-        self.accounts[account as usize] = 0;
+        self.parties[party] += content;
+        self.accounts[account] = 0;
         Ok(())
     }
 
@@ -85,11 +83,8 @@ impl Ledger<Coins> for CoinLedger {
             return Err(Refusal::OutOfRange);
         }
         let count = match holder {
-            Holder::Party(party) if party < MAX_PARTIES => self.parties[party as usize],
-            Holder::Escrow(account) if (account as usize) < MAX_LEGS => {
-                self.accounts[account as usize]
-            }
-            _ => return Err(Refusal::OutOfRange),
+            Holder::Party(party) => self.parties[party_place(party)?],
+            Holder::Escrow(account) => self.accounts[account_place(account)?],
         };
         Ok(u64::from(count))
     }

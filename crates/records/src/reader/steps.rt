@@ -1,43 +1,25 @@
 ghost use Rattle.std.specs.Prelude.{◌≡◌};
-ghost use Rattle.records.specs.Records.{body_size};
 ghost use Rattle.records.specs.Reading.{Framed, Next, source, place};
 
 use crate::reader::Reader;
-use crate::record::{HEADING, HOLDING, LEG, Record, TERMS};
+use crate::record::{Kind, Record};
 use swap::faults::{Fault, Reason};
 
-fn body_len(kind: u8) -> Option<usize>
-    ensures { result ≡ body_size kind }
+// The record of that kind byte at the front of `tail`, and what follows it; `at` is the place of the kind byte.
+fn framed(byte: u8, tail: &[u8], at: usize) -> Result<(Record<'_>, &[u8]), Fault>
+    ensures { Framed byte tail.now at result }
 {
-    match kind {
-        HEADING | TERMS => Some(4),
-        HOLDING => Some(6),
-        LEG => Some(7),
-        _ => None,
-    }
-}
-
-// The record of that kind at the front of `tail`, and what follows it; `at` is the place of the kind byte.
-fn framed(kind: u8, tail: &[u8], at: usize) -> Result<(Record<'_>, &[u8]), Fault>
-    ensures { Framed kind tail.now at result }
-{
-    let Some(len) = body_len(kind) else {
-        return Err(Fault {
-            reason: Reason::UnknownKind,
-            place: at,
-        });
+    let Ok(kind) = Kind::try_from(byte) else {
+        return Err(Reason::UnknownKind.at(at));
     };
-    let Some((body, rest)) = tail.split_at_checked(len) else {
-        return Err(Fault {
-            reason: Reason::CutShort,
-            place: at,
-        });
+    let Some((body, rest)) = tail.split_at_checked(kind.body_len()) else {
+        return Err(Reason::CutShort.at(at));
     };
     let record = match kind {
-        HEADING => Record::Heading(body),
-        TERMS => Record::Terms(body),
-        HOLDING => Record::Holding(body),
-        _ => Record::Leg(body),
+        Kind::Heading => Record::Heading(body),
+        Kind::Terms => Record::Terms(body),
+        Kind::Holding => Record::Holding(body),
+        Kind::Leg => Record::Leg(body),
     };
     Ok((record, rest))
 }
@@ -50,15 +32,16 @@ impl<'a> Reader<'a> {
     }
 
     // The next record with the place of its kind byte; none at the end.
+    // Not an `Iterator` of results, which would have to say what comes after a refusal.
     pub fn next(&mut self) -> Result<Option<(usize, Record<'a>)>, Fault>
         ensures same { source self.new ≡ source self.old }
         ensures found { Next (source self.old) (place self.old) (place self.new) result }
     {
         let at = self.at;
-        let [kind, tail @ ..] = &self.bytes[at..] else {
+        let [byte, tail @ ..] = &self.bytes[at..] else {
             return Ok(None);
         };
-        let (record, rest) = framed(*kind, tail, at)?;
+        let (record, rest) = framed(*byte, tail, at)?;
         self.at = self.bytes.len() - rest.len();
         Ok(Some((at, record)))
     }

@@ -1,62 +1,82 @@
-ghost use Rattle.std.specs.Prelude.{◌≡◌, ℕ};
-ghost use Rattle.swap.specs.declared.records.Holder.{Holder};
+ghost use Rattle.std.specs.Prelude.{◌≡◌, not, Ok};
+ghost use Rattle.std.specs.List.{list_any};
+ghost use Rattle.ledgers.specs.Calls.{refuse};
+ghost use Rattle.ledgers.specs.declared.refusals.Refusal.TheVariants.{OutOfRange};
+ghost use Rattle.swap.specs.Assets.{title_asset};
+ghost use Rattle.swap.specs.declared.records.Holder.TheVariants.{Escrow};
 ghost use Rattle.titles.specs.Counts.{titles_on};
+ghost use Rattle.titles.specs.Titles.{held_by};
 
 use crate::ledger::{COUNT, TitleLedger};
-use crate::table::{any_held_by, hand_over, is_held_by};
-use ledgers::books::Ledger;
+use crate::table::hand_over;
+use ledgers::books::{EmptyLedger, Ledger};
 use ledgers::kinds::Titles;
+use ledgers::places::{account_place, party_place, place_in};
 use ledgers::refusals::Refusal;
-use swap::limits::{MAX_LEGS, MAX_PARTIES, TITLES};
 use swap::records::Holder;
 
+// The place of a title on a ledger, if there is such a title.
+fn title_place(title: u32) -> Result<usize, Refusal>
+    ensures { result ≡ refuse (not (title_asset title)) OutOfRange (Ok title) }
+{
+    // usize has no `From` of u32; the check proves that `as` loses nothing
+    place_in(title as usize, COUNT)
+}
+
 impl TitleLedger {
-    pub fn new() -> TitleLedger
-        ensures { (h : Holder) (u : ℕ) → titles_on result h u ≡ 0 }
+    // Does an escrow account hold a title?
+    fn is_taken(&self, account: u8) -> bool
+        ensures { result ≡ list_any (λ title. held_by title (Escrow account)) self.now.holders }
     {
+        self.holders.contains(&Some(Holder::Escrow(account)))
+    }
+}
+
+impl EmptyLedger<Titles> for TitleLedger {
+    fn empty() -> Self {
         TitleLedger {
             holders: [None; COUNT],
         }
     }
 }
 
+// No table here has a line for each party or account: their places are asked for only to refuse a number that has none.
 impl Ledger<Titles> for TitleLedger {
     ghost counts = { titles_on };
 
     fn clear(&mut self) {
-        self.holders = [None; COUNT];
+        *self = TitleLedger::empty();
     }
 
     fn credit(&mut self, party: u8, asset: u32) -> Result<(), Refusal> {
-        if party >= MAX_PARTIES || asset >= TITLES {
-            return Err(Refusal::OutOfRange);
-        }
-        if self.holders[asset as usize].is_some() {
+        party_place(party)?;
+        let title = title_place(asset)?;
+        if self.holders[title].is_some() {
             return Err(Refusal::OverCeiling);
         }
-        self.holders[asset as usize] = Some(Holder::Party(party));
+        self.holders[title] = Some(Holder::Party(party));
         Ok(())
     }
 
     fn deposit(&mut self, party: u8, account: u8, asset: u32) -> Result<(), Refusal> {
-        if party >= MAX_PARTIES || account as usize >= MAX_LEGS || asset >= TITLES {
-            return Err(Refusal::OutOfRange);
-        }
-        if any_held_by(&self.holders, Holder::Escrow(account)) {
+        party_place(party)?;
+        account_place(account)?;
+        let title = title_place(asset)?;
+        if self.is_taken(account) {
             return Err(Refusal::AccountTaken);
         }
-        if !is_held_by(self.holders[asset as usize], Holder::Party(party)) {
+        let holder = self.holders[title];
+        if holder != Some(Holder::Party(party)) {
             return Err(Refusal::TooLittle);
         }
-        self.holders[asset as usize] = Some(Holder::Escrow(account));
+        self.holders[title] = Some(Holder::Escrow(account));
         Ok(())
     }
 
     fn release(&mut self, account: u8, party: u8) -> Result<(), Refusal> {
-        if account as usize >= MAX_LEGS || party >= MAX_PARTIES {
-            return Err(Refusal::OutOfRange);
-        }
-        if !any_held_by(&self.holders, Holder::Escrow(account)) {
+        account_place(account)?;
+        party_place(party)?;
+        if !self.is_taken(account) {
             return Err(Refusal::AccountEmpty);
         }
         hand_over(
@@ -68,13 +88,9 @@ impl Ledger<Titles> for TitleLedger {
     }
 
     fn balance(&self, holder: Holder, unit: u32) -> Result<u64, Refusal> {
-        let exists = match holder {
-            Holder::Party(party) => party < MAX_PARTIES,
-            Holder::Escrow(account) => (account as usize) < MAX_LEGS,
-        };
-        if !exists || unit >= TITLES {
+        if !holder.exists() {
             return Err(Refusal::OutOfRange);
         }
-        Ok(u64::from(is_held_by(self.holders[unit as usize], holder)))
+        Ok(u64::from(self.holders[title_place(unit)?] == Some(holder)))
     }
 }

@@ -4,6 +4,4 @@ use Rattle.route.proofs.Route.contains.Goals as goal
 use Rattle.swap.specs.Routes.{mem}
 
 pub returns : goal.returns
-returns c =
-    found c.args.party c.parties.result.now c.contains.result c.contains.ensures.cases
-    ∙ ap (mem c.args.party) c.parties.ensures
+returns c = c.contains.ensures.value ∙ found c.args.party c.parties.result.now ∙ ap (mem c.args.party) c.parties.ensures.parties

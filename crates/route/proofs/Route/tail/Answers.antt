@@ -1,23 +1,21 @@
-use Rattle.std.proofs.Common.{drop, Some, sym, ap, ◌∙◌, arith}
-use Rattle.route.proofs.Lists.{suffix_here, suffix_on}
+use Rattle.std.proofs.Common.{drop, Some, sym, ap, ◌∙◌, option_map, arith, rules}
+use Rattle.route.proofs.Lists.{proper_rest, suffix_is}
 use Rattle.route.proofs.Route.tail.Goals as goal
-use Rattle.route.specs.Views.{suffix}
-use Rattle.std.proofs.lemmas.List.{at_drop_all}
+use Rattle.std.proofs.lemmas.Slice.{between_to_end}
 
-pub returns-then-p-party : goal.returns-then-p-party
-returns-then-p-party c =
-    let i = c.loop-i.i in
-    let e = c.parties-parties.ensures in
-    ap Some (c.suffix_at.ensures ∙ ap (drop i) (sym e))
-    ∙ sym (suffix_here c.parties-parties.result.now c.args.party i (omega arith) c.if-p-party.true)
-    ∙ sym c.loop-i.invariant
-    ∙ ap (suffix c.args.party) e
+pub returns-in_err-place : goal.returns-in_err-place
+returns-in_err-place c =
+    c.from_residual.ensures
+    ∙ ap (option_map (λ i. drop i c.args.self.now)) c.in_err-place.ensures
+    ∙ sym (suffix_is c.args.party c.args.self.now)
 
-pub loop-i-preserved : goal.loop-i-preserved
-loop-i-preserved c =
-    c.loop-i.invariant ∙ suffix_on c.parties-parties.result.now c.args.party c.loop-i.i (omega arith) c.if-p-party.false
+pub of-requires : goal.of-requires
+of-requires c = proper_rest _ c.parties.result.now (rw c.parties.ensures.parties c.parties.ensures.proper) (search rules)
 
 pub returns : goal.returns
 returns c =
-    sym (c.loop-i.invariant ∙ at_drop_all (suffix c.args.party) c.parties-parties.result.now c.loop-i.i (omega arith))
-    ∙ ap (suffix c.args.party) c.parties-parties.ensures
+    let i = c.in_ok-place.place in
+    let rest = between_to_end c.parties.result.now i _ (omega arith) in
+    ap Some (c.of.ensures ∙ rest ∙ ap (drop i) c.parties.ensures.parties)
+    ∙ ap (option_map (λ i. drop i c.args.self.now)) c.in_ok-place.ensures
+    ∙ sym (suffix_is c.args.party c.args.self.now)

@@ -1,4 +1,4 @@
-use Rattle.plan.proofs.Exits.{file_refused, checkable, plan_refused, plan_accepted}
+use Rattle.plan.proofs.Exits.{file_refused, plan_refused, plan_accepted}
 use Rattle.plan.proofs.plan.Plan.read.Goals as goal
 use Rattle.std.proofs.lemmas.Result.{err_from_is_err_and}
 use Rattle.swapfile.specs.Reads.{content_of}
@@ -8,20 +8,12 @@ returns-in_err-file c =
     let p = err_from_is_err_and c.from_residual.result c.from_residual.ensures.1 in
     file_refused c.args.bytes.now c.from_residual.result p.0 c.in_err-file.field-0.0 p.1 p.2 c.in_err-file.ensures.answer
 
-pub check-requires : goal.check-requires
-check-requires c =
-    let file = c.in_ok-file.file in
-    checkable c.args.bytes.now (content_of file) c.in_ok-file.ensures.answer c.deref-2.result.now c.deref-2.ensures.value
-
 pub returns-in_err-span : goal.returns-in_err-span
 returns-in_err-span c =
-    let file = c.in_ok-file.file in
     let p = err_from_is_err_and c.from_residual-in_err-span.result c.from_residual-in_err-span.ensures.1 in
-    plan_refused c.args.bytes.now (content_of file) c.in_ok-file.ensures.answer c.deref-2.result.now c.deref-2.ensures.value
-    c.deref.result.now c.deref.ensures.value c.from_residual-in_err-span.result p.0 c.in_err-span.field-0.0 p.1 p.2 c.in_err-span.ensures
+    plan_refused c.args.bytes.now (content_of c.in_ok-file.file) c.in_ok-file.ensures.answer
+    c.from_residual-in_err-span.result p.0 c.in_err-span.field-0.0 p.1 p.2 c.in_err-span.ensures
 
 pub returns : goal.returns
 returns c =
-    let file = c.in_ok-file.file in
-    plan_accepted c.args.bytes.now (content_of file) c.in_ok-file.ensures.answer c.deref-2.result.now c.deref-2.ensures.value
-    c.deref.result.now c.deref.ensures.value c.in_ok-span.span c.in_ok-span.ensures
+    plan_accepted c.args.bytes.now (content_of c.in_ok-file.file) c.in_ok-file.ensures.answer c.in_ok-span.span c.in_ok-span.ensures

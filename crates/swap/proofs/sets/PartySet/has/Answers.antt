@@ -1,11 +1,7 @@
-use Rattle.std.proofs.Common.{◌^◌, ◌<◌, eqb, sym, ap, ◌∙◌, arith}
-use Rattle.std.proofs.lemmas.Nat.{and_mask}
+use Rattle.std.proofs.Common.{◌^◌, ◌<◌, sym, ◌∙◌, arith}
 use Rattle.std.proofs.lemmas.Bool.{le-ltb}
 use Rattle.swap.proofs.Bits.{none, short}
 use Rattle.swap.proofs.sets.PartySet.has.Goals as goal
-
-pub returns-then-party-lt-SET_BITS : goal.returns-then-party-lt-SET_BITS
-returns-then-party-lt-SET_BITS c = ap (λ x. eqb x 1) (and_mask _ 1)
 
 pub returns-else-party-lt-SET_BITS : goal.returns-else-party-lt-SET_BITS
 returns-else-party-lt-SET_BITS c =

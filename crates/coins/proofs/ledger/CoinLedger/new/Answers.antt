@@ -1,6 +1,0 @@
-use Rattle.coins.proofs.Held.{nothing}
-use Rattle.swap.specs.Limits.{max_legs, max_parties}
-use Rattle.coins.proofs.ledger.CoinLedger.new.Goals as goal
-
-pub returns : goal.returns
-returns c = nothing max_parties max_legs

@@ -1,6 +1,0 @@
-use Rattle.graph.proofs.Statements.{SpanBelow}
-use Rattle.graph.proofs.span.Given as goal
-use Rattle.graph.specs.Graphs.{Among, count}
-
-abbrev pub invariant-loop-x : goal.invariant-loop-x
-invariant-loop-x l = SpanBelow (Among (count l.parties) l.legs) (count l.parties) l.x l.most
