@@ -5,7 +5,7 @@ use Rattle.swap.proofs.Bits.{tells}
 use Rattle.swap.specs.Sets.{member, Exactly}
 
 -- two tests of one statement agree
-agree : (P : Type 0) (a b : Bool) → Exactly a P → Exactly b P → a ≡ b
+pub agree : (P : Type 0) (a b : Bool) → Exactly a P → Exactly b P → a ≡ b
 agree P true true p q = refl
 agree P true false p q = absurd (q p)
 agree P false true p q = absurd (p q)

@@ -2,8 +2,7 @@
 use Rattle.std.specs.Prelude.{ℕ, Bool, true, false, not, ◌&&◌, ◌||◌, List, [], ◌∷◌, ◌++◌, length, is_some, Some, None, vec_items, Option, ◌==◌, nat_le, nat_lt, if◌then◌else◌}
 use Rattle.filerules.specs.Fields.{terms_hold, holding_holds, leg_holds}
 use Rattle.filerules.specs.declared.draft.Draft.{Draft}
-use Rattle.records.specs.Records.{byte_of, kind_of}
-use Rattle.records.specs.declared.record.Kind.{Kind}
+use Rattle.records.specs.Records.{kind_of}
 use Rattle.records.specs.declared.record.Statement.{Statement}
 use Rattle.records.specs.declared.record.Statement.TheVariants as states
 use Rattle.std.specs.List.{list_any}
@@ -26,14 +25,9 @@ pub record Said : Type 0 where
 abbrev pub start : Said
 start = record { ahead = 0; number = None; terms = None; holdings = []; legs = [] }
 
--- 0 before the first record
-abbrev pub ahead_of : Option Kind → ℕ
-ahead_of None = 0
-ahead_of (Some kind) = byte_of kind
-
 abbrev pub said : Draft → Said
 said d =
-    record { ahead = ahead_of d.ahead; number = d.number; terms = d.terms; holdings = vec_items d.holdings; legs = vec_items d.legs }
+    record { ahead = d.ahead; number = d.number; terms = d.terms; holdings = vec_items d.holdings; legs = vec_items d.legs }
 
 -- with one record more
 abbrev pub put : Said → Statement → Said

@@ -13,8 +13,9 @@ use swap::records::{Holding, Leg, Terms};
 // Contracts see it through `said`. A `Model` would be no plainer: the reader of files takes the fields apart.
 #[derive(Drop)]
 pub struct Draft {
-    // the kind of the last record
-    pub ahead: Option<Kind>,
+    // the kind byte of the last record, 0 before the first
+    // a byte and no `Option<Kind>`: whoever makes a draft may say anything of what is ahead, and is answered
+    pub ahead: u8,
     pub number: Option<u32>,
     pub terms: Option<Terms>,
     pub holdings: Vec<Holding>,
@@ -38,7 +39,7 @@ impl Draft {
         ensures { said result ≡ start }
     {
         Draft {
-            ahead: None,
+            ahead: 0,
             number: None,
             terms: None,
             holdings: Vec::new(heap),
@@ -51,7 +52,7 @@ impl Draft {
         ensures { result ≡ late (said self.now) statement.now }
     {
         let kind = statement.kind();
-        self.ahead.is_some_and(|ahead| kind < ahead) || (kind > Kind::Terms && self.terms.is_none())
+        (kind as u8) < self.ahead || (kind > Kind::Terms && self.terms.is_none())
     }
 
     fn fields_hold(&self, statement: &Statement) -> bool
@@ -116,7 +117,7 @@ impl Draft {
             Statement::Holding(holding) => self.holdings.push(holding)?,
             Statement::Leg(leg) => self.legs.push(leg)?,
         }
-        self.ahead = Some(kind);
+        self.ahead = kind as u8;
         Ok(())
     }
 }

@@ -22,12 +22,12 @@ all_last Q x (y ∷ s) a = all_last Q y s (All-tail Q x (y ∷ s) a)
 
 -- a route by its pairs of neighbours
 module _ (P : ℕ → ℕ → Type 0) where
-  pairs_of : (ps : List ℕ) → Joined P ps → All (λ (p : ℕ × ℕ). P p.0 p.1) (zip ps (drop 1 ps))
+  pub pairs_of : (ps : List ℕ) → Joined P ps → All (λ (p : ℕ × ℕ). P p.0 p.1) (zip ps (drop 1 ps))
   pairs_of [] j = absurd j
   pairs_of (x ∷ []) j = All-nil (λ (p : ℕ × ℕ). P p.0 p.1)
   pairs_of (x ∷ (y ∷ ps)) j = All-cons (λ (p : ℕ × ℕ). P p.0 p.1) (x, y) (zip (y ∷ ps) ps) j.0 (pairs_of (y ∷ ps) j.2)
 
-  joined_of : (ps : List ℕ) → 1 ≤ length ps → distinct ps ≡ true → All (λ (p : ℕ × ℕ). P p.0 p.1) (zip ps (drop 1 ps)) → Joined P ps
+  pub joined_of : (ps : List ℕ) → 1 ≤ length ps → distinct ps ≡ true → All (λ (p : ℕ × ℕ). P p.0 p.1) (zip ps (drop 1 ps)) → Joined P ps
   joined_of [] l d a = omega arith
   joined_of (x ∷ []) l d a = tt
   joined_of (x ∷ (y ∷ ps)) l d a =
@@ -203,7 +203,7 @@ module _ (P : ℕ → ℕ → Type 0) where
   pub reaches : (x y w : ℕ) → Longest P x y w → 0 < w → Reaches P x y
   reaches x y w l h = let s = l.some h in record { by = s.0; route = s.1; ends = s.2 }
 
-  connected : (n : ℕ) → ((q : ℕ) → q < n → Reaches P 0 q × Reaches P q 0) → Connected P n
+  pub connected : (n : ℕ) → ((q : ℕ) → q < n → Reaches P 0 q × Reaches P q 0) → Connected P n
   connected n h x y l m = reaches_on P x 0 y (h x l).1 (h y m).0
 
   -- the first party that is apart from party 0, if there is one

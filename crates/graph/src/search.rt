@@ -40,7 +40,7 @@ fn better(best: u8, further: u8) -> u8
     }
 }
 
-// For each end, the most parties on a way from x: a joined route whose parties after x are free. 0 if there is none.
+// For each end, the most parties on a way from x through free parties; 0 if there is no way.
 #[tactic(auto, using(crate::proofs::Sizes::size_set, crate::proofs::Steps::ended))]
 pub(crate) fn row(legs: &[Leg], free: [bool; ROOM], x: u8) -> [u8; ROOM]
     requires { x < max_parties }

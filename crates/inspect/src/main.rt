@@ -104,7 +104,9 @@ fn run(rt: &HostRuntime) -> Result<(), Failure> {
 fn main(rt: HostRuntime) -> ExitCode {
     match run(&rt) {
         Ok(()) => ExitCode::SUCCESS,
-        Err(error) => {
+        Err(failure) => {
+            // told in at most 120 bytes, as `anyhow` keeps a message
+            let error = anyhow::Error::from(failure);
             let _ = eprintln!(rt; "inspect: {error}");
             ExitCode::FAILURE
         },

@@ -2,12 +2,12 @@
 use Rattle.std.proofs.Common.{◌≡◌, ℕ, ◌+◌, ◌-◌, ◌<◌, ◌≤◌, Bool, true, false, not, Ok, Err, Result, sym, refl, ap, ◌∙◌, subst, ⊎_elim, arith}
 use mathlib.Core.Path.{fun_ext}
 use Rattle.swap.proofs.Sums.{sum_set, sum_term}
-use Rattle.ledgers.specs.Calls.{Answer, OnLedger, refuse, settled, credit_verdict, deposit_verdict, deposited, release_verdict, released}
-use Rattle.ledgers.specs.Laws.{SameTotals, DepositsComeBack, DepositsKeepTotals, ReleasesKeepTotals}
+use Rattle.ledgers.specs.Calls.{Answer, OnLedger, refuse, settled, credit_verdict, deposit_verdict, deposited, release_verdict, released, Deposited, Released, credited}
+use Rattle.ledgers.specs.Laws.{SameTotals, DepositsComeBack, DepositsKeepTotals, ReleasesKeepTotals, PaidThrough, Then, Unmoved}
 use Rattle.ledgers.specs.Stocks.{Counts, Stock, Rules, Lawful, worth, is_ledger, total, content}
 use Rattle.ledgers.specs.declared.refusals.Refusal.{Refusal}
 use Rattle.ledgers.specs.declared.refusals.Refusal.TheVariants.{OutOfRange}
-use Rattle.std.proofs.lemmas.Bool.{cases_eq, cond-false, not-false, not_from_true}
+use Rattle.std.proofs.lemmas.Bool.{cases_eq, cond-false, not-false, not_from_true, and_parts, ltb-true}
 use Rattle.std.proofs.lemmas.Bool.Decides.{nat_tests}
 use Rattle.swap.specs.Limits.{max_legs, max_parties}
 use Rattle.swap.specs.Below.{sum_below}
@@ -29,6 +29,12 @@ abbrev total_of : ℕ → ℕ → Counts → ℕ → ℕ
 total_of parties accounts f u = sum_below parties (λ p. f (Party p) u) + sum_below accounts (λ a. f (Escrow a) u)
 
 module _ (n m : ℕ) (f : Counts) (party : ℕ) (exists : party < n) (u : ℕ) where
+  -- a credit raises the total by its worth, a deposit and a release leave it
+  pub credited_total : (k : Rules) (asset : ℕ) → total_of n m (credited k party asset f) u ≡ total_of n m f u + worth k asset u
+  credited_total k asset =
+      let parties = sum_set n party (f (Party party) u + worth k asset u) (λ p. f (Party p) u) exists in
+      omega arith
+
   module _ (account : ℕ) (exists' : account < m) where
     pub deposited_total : (k : Rules) (asset : ℕ) → worth k asset u ≤ f (Party party) u
         → total_of n m (deposited k party account asset f) u ≡ total_of n m f u
@@ -44,6 +50,11 @@ module _ (n m : ℕ) (f : Counts) (party : ℕ) (exists : party < n) (u : ℕ) w
         omega arith
 
 -- ---- what an accepted call was tested for
+pub accepted_credit : (k : Rules) (party asset : ℕ) (f : Counts) → Ok tt ≡ credit_verdict k party asset f → party < max_parties
+accepted_credit k party asset f h =
+    let range = (accepted _ _ _ tt h).0 in
+    ltb-true party max_parties (and_parts _ _ (not-false _ range)).0
+
 pub record DepositOk (k : Rules) (party account asset : ℕ) (f : Counts) : Type 0 where
   pub payer : party < max_parties
   pub free : account < max_legs
@@ -149,3 +160,26 @@ deposits_come_back k lawful ledger party account asset s s' s'' answer put_up gi
           (λ ne. given.others l ne h u ∙ put_up.others l ne h u)
           (cases_eq l ledger),
     )
+
+-- ---- a payment through an escrow account: it keeps the totals, and one to its own payer moves nothing
+module _ (k : Rules) (ledger payer account receiver asset : ℕ) (s s'' : Stock) where
+  paid : (first answer : Answer) (s' : Stock) → Deposited k ledger payer account asset s first s'
+      → Then first (Released k ledger account receiver s' answer s'') ((answer ≡ first) × (s'' ≡ s')) → SameTotals s s''
+  paid (Ok _) answer s' one two l u =
+      releases_keep_totals k ledger account receiver s' s'' answer two l u ∙ deposits_keep_totals k ledger payer account asset s s' (Ok tt) one l u
+  paid (Err e) answer s' one two l u =
+      ap (λ (f : Stock). total (f l) u) two.1 ∙ deposits_keep_totals k ledger payer account asset s s' (Err e) one l u
+
+  pub paid_totals : (answer : Answer) → PaidThrough k ledger payer account receiver asset s answer s'' → SameTotals s s''
+  paid_totals answer did = paid did.first answer did.s' did.put_up did.passed_on
+
+  unpaid : Lawful k → receiver ≡ payer → (first answer : Answer) (s' : Stock) → Deposited k ledger payer account asset s first s'
+      → Then first (Released k ledger account receiver s' answer s'') ((answer ≡ first) × (s'' ≡ s')) → Unmoved k s s''
+  unpaid lawful same (Ok _) answer s' one two l h u lt =
+      (deposits_come_back k lawful ledger payer account asset s s' s'' answer one (subst (λ p. Released k ledger account p s' answer s'') same two)).1 l h u lt
+  unpaid lawful same (Err e) answer s' one two l h u lt =
+      ap (λ (f : Stock). f l h u) two.1
+      ∙ ⊎_elim (λ here. subst (λ x. s' x h u ≡ s x h u) (sym here) (one.counts h u)) (λ ne. one.others l ne h u) (cases_eq l ledger)
+
+  pub paid_back : Lawful k → receiver ≡ payer → (answer : Answer) → PaidThrough k ledger payer account receiver asset s answer s'' → Unmoved k s s''
+  paid_back lawful same answer did = unpaid lawful same did.first answer did.s' did.put_up did.passed_on

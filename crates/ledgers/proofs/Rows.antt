@@ -25,7 +25,7 @@ found ledger place h = grind (arith, nat_tests)
 
 module _ {L : Type 0} (counts : L → Counts) (xs : List L) (four : length xs ≡ book_ledgers)
     (verdict : Counts → Answer) (effect : Counts → Counts) (answer : Answer) where
-  at_place : (place : ℕ) (d y : L) → place < book_ledgers
+  pub at_place : (place : ℕ) (d y : L) → place < book_ledgers
       → Settles verdict effect (counts (get_or xs place d)) answer (counts y)
       → OnLedger place verdict effect (stock_of counts xs) answer (stock_of counts (set xs place y))
   at_place place d y few did =

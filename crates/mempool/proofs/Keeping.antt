@@ -1,5 +1,5 @@
 -- Lemmas on taking one out of what waits, and one after another.
-use Rattle.std.proofs.Common.{◌≡◌, ℕ, suc, true, not, ◌&&◌, ◌||◌, eqb, List, [], ◌∷◌, ◌++◌, length, Some, Option, sym, refl, ap, subst, arith}
+use Rattle.std.proofs.Common.{◌≡◌, ℕ, suc, true, not, ◌&&◌, ◌||◌, eqb, List, [], ◌∷◌, ◌++◌, length, Some, Option, sym, refl, ap, subst, arith, Bool, false}
 use Rattle.std.proofs.lemmas.Bool.{and_parts}
 use Rattle.std.proofs.lemmas.List.Elements.{All-head, All-tail, All-cons}
 use Rattle.std.specs.Iterator.{Yields}
@@ -29,6 +29,14 @@ all_taken P (later t) p a = All-cons P _ _ (All-head P _ _ a) (all_taken P t p (
 pub taken_waits : {w : Waiting} {ws rest : List Waiting} (n : ℕ) → Taken w ws rest → waits n ws ≡ (eqb n w.number || waits n rest)
 taken_waits n here = refl
 taken_waits n (later t) = grind (arith, taken_waits n t)
+
+-- neither a nor b, and not c but d: b and c may change places
+swap_and : (a b c d : Bool) → (not (a || b) && (not c && d)) ≡ (not (a || c) && (not b && d))
+swap_and true b c d = refl
+swap_and false true true d = refl
+swap_and false true false d = refl
+swap_and false false true d = refl
+swap_and false false false d = refl
 
 -- numbers are apart if the rest's are and the one's is not among them
 pub taken_apart : {w : Waiting} {ws rest : List Waiting} → Taken w ws rest

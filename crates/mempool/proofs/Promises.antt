@@ -1,11 +1,12 @@
 -- The laws of specs/Laws.antt.
-use Rattle.std.proofs.Common.{◌≡◌, ◌<◌, false, List, length, Some, None, Ok, Err, sym, subst, arith}
+use Rattle.std.proofs.Common.{◌≡◌, ◌<◌, ◌≤◌, false, List, length, Some, None, Ok, Err, sym, subst, arith, ⊎_elim}
 use Rattle.swap.specs.Limits.{max_lines}
 use Rattle.swap.specs.declared.records.Waiting.{Waiting}
 use Rattle.mempool.specs.Calls.{Taken, waits, Submitted, Handed, older}
 use Rattle.mempool.specs.Laws.{Kept, Apart, Few, OneOldest}
 use Rattle.mempool.specs.declared.refusal.Refusal.TheVariants.{Full, Duplicate}
 use Rattle.mempool.proofs.Keeping.{taken_length, taken_all, taken_apart, taken_same}
+use Rattle.std.proofs.lemmas.Bool.{and_cases, or_parts, eqb-false, ltb-false}
 
 module _ (P : List Waiting → Type 0)
     (added : (w : Waiting) (before after : List Waiting) → length before < max_lines → waits w.number before ≡ false → Taken w after before
@@ -30,6 +31,10 @@ kept_apart =
 pub kept_few : Kept Few
 kept_few =
     keeps Few (λ w before after room new t few. omega (arith, taken_length t)) (λ w before after t few. omega (arith, taken_length t))
+
+-- of two with one tick, one that is not older has no lower number
+not_lower : (v w : Waiting) → older v w ≡ false → v.tick ≡ w.tick → w.number ≤ v.number
+not_lower v w e same = ⊎_elim (λ h. absurd (eqb-false _ _ h same)) (λ h. ltb-false _ _ h) (and_cases _ _ (or_parts _ _ e).1)
 
 pub one_oldest : OneOldest
 one_oldest v w before after after' apart t u first first' =

@@ -1,6 +1,6 @@
 // The shipped mempools: of what waits, the oldest is handed out as soon as the pace allows it.
-ghost use Rattle.std.specs.List.{list_any};
-ghost use Rattle.std.specs.Prelude.{◌≡◌, ◌<◌, ◌≤◌, ◌==◌, [], length, slice_index_or, Contains, IfOk, MatchOption};
+ghost use Rattle.std.specs.List.{position};
+ghost use Rattle.std.specs.Prelude.{◌≡◌, ◌<◌, ◌≤◌, ◌==◌, [], length, slice_index_or, Contains, IfOk, MatchOption, is_some};
 ghost use Rattle.mempool.specs.Calls.{Oldest, OldestReady};
 ghost use Rattle.swap.specs.Limits.{max_lines};
 
@@ -49,10 +49,24 @@ impl<P> OldestFirst<P> {
         &self.lines
     }
 
-    fn holds(&self, number: u32) -> bool
-        ensures { result ≡ list_any (λ w. number == w.number) self.now }
+    // How many have memory already: all that may wait.
+    pub fn capacity(&self) -> usize
+        ensures { max_lines ≤ result }
     {
-        self.lines.iter().any(|w| number == w.number)
+        self.lines.capacity()
+    }
+
+    // By its place: over a full mempool the loop that `any` makes was slower.
+    fn holds(&self, number: u32) -> bool
+        ensures { result ≡ is_some (position (λ w. number == w.number) self.now) }
+    {
+        self.place_of_number(number).is_some()
+    }
+
+    fn place_of_number(&self, number: u32) -> Option<usize>
+        ensures { result ≡ position (λ w. number == w.number) self.now }
+    {
+        self.lines.iter().position(|w| number == w.number)
     }
 
     // The oldest, if any waits.
@@ -81,7 +95,7 @@ impl<P: Pace> Mempool for OldestFirst<P> {
         self.lines.clear();
     }
 
-    #[tactic(auto, using(crate::proofs::Waits::taken_push, crate::proofs::Waits::list_any_waits))]
+    #[tactic(auto, using(crate::proofs::Waits::taken_push, crate::proofs::Waits::waits_placed))]
     fn submit(&mut self, w: Waiting) -> Result<(), Refusal> {
         if self.lines.len() >= MAX_LINES {
             return Err(Refusal::Full);

@@ -27,6 +27,9 @@ impl Pace for AtOnce {
 
 // What is ready at once is handed out at once: the oldest of what waits, and nothing only where nothing waits.
 pub fn prompt_hands_out_all()
-    ensures { (handed : Option Waiting) (old : List Waiting)
+    ensures all { (handed : Option Waiting) (old : List Waiting)
         → OldestReady (λ _. ⊤) handed old → MatchOption handed (old ≡ []) (λ w. Oldest w old) }
+    ensures prompt { (tick delta : ℕ) (handed : Option Waiting) (old new : List Waiting)
+        → ⟦<Prompt as Mempool>⟧.take_gives tick delta old handed new
+        → MatchOption handed (old ≡ []) (λ w. Oldest w old) }
 {}

@@ -1,5 +1,5 @@
 -- What the code leans on: what never happens, and what waits.
-use Rattle.std.proofs.Common.{◌≡◌, ℕ, ◌<◌, ◌≤◌, true, false, eqb, List, [], ◌∷◌, length, sym, refl, ap, ◌∙◌, subst, ⊎_elim, arith}
+use Rattle.std.proofs.Common.{◌≡◌, ℕ, ◌<◌, ◌≤◌, true, false, not, eqb, List, [], ◌∷◌, length, sym, refl, ap, ◌∙◌, ◌||◌, subst, ⊎_elim, arith}
 use Rattle.ledgers.proofs.LawsHold.{release_ok}
 use Rattle.mempool.specs.Calls.{numbers}
 use Rattle.protocol.proofs.Basics.{Fails, passes, one_if}
@@ -16,7 +16,7 @@ use Rattle.protocol.specs.Calls.{fresh, Reached}
 use Rattle.protocol.specs.Law.{Nevers, Waits, Pools}
 use Rattle.protocol.specs.State.{leg_of, Line, Run, running}
 use Rattle.protocol.specs.Verdicts.{pending, tests, judged}
-use Rattle.std.proofs.lemmas.Bool.{or_parts, and_parts, and_from, not-true, not_from_false, cases_Bool, eq-eqb, eqb-true}
+use Rattle.std.proofs.lemmas.Bool.{or_parts, and_parts, and_from, not-true, not_from_false, cases_Bool, eq-eqb, eqb-true, ne_eqb}
 use Rattle.std.proofs.lemmas.List.Elements.{All-nil, All-cons, All-head, All-tail}
 use Rattle.std.proofs.lemmas.List.Folds.{Any-from_list_any}
 use Rattle.std.proofs.lemmas.Map.Steps.{length-le_from_distinct_below}
@@ -26,6 +26,8 @@ use Rattle.swap.specs.Limits.{max_legs, max_parties}
 use Rattle.swap.specs.Routes.{mem, distinct}
 use Rattle.swap.specs.Swaps.{Swap, Sound}
 use Rattle.swap.specs.declared.records.Waiting.{Waiting}
+use Rattle.swap.proofs.Sums.{sum_zero, sum_changed}
+use Rattle.swap.specs.Below.{sum_below}
 
 none_equal : (x : ℕ) (r : List ℕ) → mem x r ≡ false → ByRecursion (λ y. eqb x y ≡ false) r
 none_equal x [] e = tt
@@ -35,6 +37,17 @@ apart : (r : List ℕ) → distinct r ≡ true → IsDistinct eqb r
 unfolding IsDistinct
 apart [] d = tt
 apart (x ∷ r) d = let e = and_parts _ _ d in (none_equal x r (not-true _ e.0), apart r e.1)
+
+-- counted one by one, numbers below n of which none stands twice are as many as their list is long
+counted : (n : ℕ) (r : List ℕ) → ByRecursion (λ x. x < n) r → distinct r ≡ true → sum_below n (λ k. one_if (mem k r)) ≡ length r
+counted n [] h d = sum_zero n (λ k. one_if (mem k [])) (λ k _. refl)
+counted n (x ∷ r) h d =
+    let e = and_parts (not (mem x r)) (distinct r) d in
+    let i = counted n r h.1 e.1 in
+    let s = sum_changed n (λ k. one_if (mem k (x ∷ r))) (λ k. one_if (mem k r)) x h.0 (λ k _ ne. ap (λ b. one_if (b || mem k r)) (ne_eqb k x ne)) in
+    let a : one_if (mem x (x ∷ r)) ≡ 1 = ap (λ b. one_if (b || mem x r)) (eq-eqb x x refl) in
+    let b : one_if (mem x r) ≡ 0 = ap one_if (not-true _ e.0) in
+    omega arith
 
 -- numbers below n of which none stands twice are at most n
 pub pigeonhole : (n : ℕ) (r : List ℕ) → All (λ x. x < n) r → distinct r ≡ true → length r ≤ n

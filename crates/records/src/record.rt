@@ -36,10 +36,13 @@ impl TryFrom<u8> for Kind {
     ghost try_from_gives = { Decodes };
 
     fn try_from(byte: u8) -> Result<Kind, Reason> {
-        [Kind::Heading, Kind::Terms, Kind::Holding, Kind::Leg]
-            .into_iter()
-            .find(|kind| *kind as u8 == byte)
-            .ok_or(Reason::UnknownKind)
+        match byte {
+            1 => Ok(Kind::Heading),
+            2 => Ok(Kind::Terms),
+            3 => Ok(Kind::Holding),
+            4 => Ok(Kind::Leg),
+            _ => Err(Reason::UnknownKind),
+        }
     }
 }
 

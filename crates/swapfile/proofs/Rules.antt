@@ -1,5 +1,5 @@
 -- Lawful records say what is ruled.
-use Rattle.std.proofs.Common.{◌≡◌, ℕ, zero, suc, ◌%◌, ◌<◌, ◌≤◌, Bool, true, false, not, ◌&&◌, ◌||◌, eqb, ltb, leb, List, [], ◌∷◌, ◌++◌, length, get_or, is_some, Some, None, Option, unwrap_or, sym, refl, ap, ◌∙◌, subst, ⊎_elim, arith}
+use Rattle.std.proofs.Common.{◌≡◌, ℕ, zero, suc, ◌%◌, ◌<◌, ◌≤◌, Bool, true, false, not, ◌&&◌, ◌||◌, eqb, ltb, leb, List, [], ◌∷◌, ◌++◌, length, get_or, is_some, Some, None, Option, unwrap_or, sym, refl, ap, ◌∙◌, subst, ⊎_elim, arith, cond}
 use Rattle.filerules.specs.Fields.{terms_hold, holding_holds, leg_holds}
 use Rattle.filerules.specs.Said.{Said, start, put, parties_of, late, fields_hold, full, clash, held, held_before, first_failed, fault_of}
 use Rattle.records.specs.Records.{Fits}
@@ -8,7 +8,7 @@ use Rattle.records.specs.declared.record.Statement.TheVariants as states
 use Rattle.std.proofs.lemmas.List.Elements.{All-nil, All-push}
 use Rattle.std.proofs.lemmas.Option.{none-some}
 use Rattle.std.proofs.lemmas.List.{length_push, get_or_append_left, get_or_push}
-use Rattle.std.proofs.lemmas.Bool.{and_parts, or_parts, not-true, not-false, ltb-true, leb-true, leb-false, eqb-true, eqb-false, cases_eq, both_ways}
+use Rattle.std.proofs.lemmas.Bool.{and_parts, or_parts, not-true, not-false, ltb-true, leb-true, leb-false, eqb-true, eqb-false, cases_eq, both_ways, eq-eqb}
 use Rattle.std.specs.List.{All}
 use Rattle.swap.proofs.Bits as bits
 use Rattle.swap.specs.Limits.{max_holdings, max_legs}
@@ -19,6 +19,7 @@ use Rattle.swap.specs.declared.records.Leg.{Leg}
 use Rattle.swap.specs.declared.records.Terms.{Terms}
 use Rattle.swapfile.specs.Files.{Content, complete, after, Lawful, Accepted}
 use Rattle.swapfile.specs.Ruled.{RuledTerms, RuledHolding, RuledLeg, Apart, Ruled}
+use Rattle.swap.specs.Assets.{holds_coins}
 
 -- a record that breaks no rule fails each test
 module _ (s : Said) (r : Statement) where
@@ -96,6 +97,23 @@ apart_push hs h a e i j d l m =
     (λ q. let jl : j < length hs = omega (arith, length_push hs h, q) in
     ap (λ x. clash x (get_or (hs ++ h ∷ []) j d)) p ∙ ap (λ x. clash (get_or hs i d) x) (get_or_append_left hs (h ∷ []) d j jl) ∙ a i j d l jl)
     (cases_eq j (length hs))
+
+-- two holdings on one ledger that do not clash: of coins, of two parties; of titles, of two assets
+pub coins_apart : (k h : Holding) → clash k h ≡ false → k.ledger ≡ h.ledger → holds_coins h.ledger ≡ true → k.party ≡ h.party → ⊥
+coins_apart k h e l c p =
+    let t : clash k h ≡ true =
+    ap (λ x. x && cond (holds_coins h.ledger) (eqb k.party h.party) (eqb k.asset h.asset)) (eq-eqb _ _ l)
+    ∙ ap (λ x. cond x (eqb k.party h.party) (eqb k.asset h.asset)) c
+    ∙ eq-eqb _ _ p in
+    both_ways (clash k h) e t
+
+pub titles_apart : (k h : Holding) → clash k h ≡ false → k.ledger ≡ h.ledger → holds_coins h.ledger ≡ false → k.asset ≡ h.asset → ⊥
+titles_apart k h e l c p =
+    let t : clash k h ≡ true =
+    ap (λ x. x && cond (holds_coins h.ledger) (eqb k.party h.party) (eqb k.asset h.asset)) (eq-eqb _ _ l)
+    ∙ ap (λ x. cond x (eqb k.party h.party) (eqb k.asset h.asset)) c
+    ∙ eq-eqb _ _ p in
+    both_ways (clash k h) e t
 
 -- what holds of all that is said
 abbrev KeptBy : Option Terms → List Holding → List Leg → Type 0

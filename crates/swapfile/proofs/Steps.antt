@@ -1,5 +1,5 @@
 -- Reading record by record.
-use Rattle.std.proofs.Common.{◌≡◌, ℕ, ◌≤◌, false, ◌||◌, eqb, ltb, List, [], ◌∷◌, ◌++◌, length, drop, Some, None, Ok, Err, Option, Result, sym, refl, ap, ◌∙◌, subst, inr, append_assoc, arith}
+use Rattle.std.proofs.Common.{◌≡◌, ℕ, ◌≤◌, false, ◌||◌, eqb, ltb, List, [], ◌∷◌, ◌++◌, length, drop, Some, None, Ok, Err, Option, Result, sym, refl, ap, ◌∙◌, ◌-◌, ◌<◌, subst, inr, append_assoc, arith}
 use Rattle.filerules.specs.Said.{Said, start, put, fault_of}
 use Rattle.records.specs.Reading.{Next}
 use Rattle.records.specs.Records.{encode, Fits, record_kind, record_body, States}
@@ -73,6 +73,20 @@ module _ (bytes source : List ℕ) (at : ℕ) (s : Said) (h : SoFar bytes source
         lawful = lawful_push start h.records st h.lawful states.1.1 (ap (λ x. fault_of x st) h.says ∙ good);
         says = after_push start h.records st ∙ ap (λ x. put x st) h.says ∙ sym p;
       }
+
+  -- behind a record less is left to read
+  pub less :
+      (source' : List ℕ) (at' : ℕ) (r : Record) → source' ≡ source → record_kind r ∷ record_body r ++ drop at' source ≡ drop at source
+      → length source' - at' < length source - at
+  less source' at' r e found =
+      omega (
+        arith,
+        ap length e,
+        ap length found,
+        length-append (record_body r) (drop at' source),
+        length-drop at' source,
+        length-drop at source,
+      )
 
   module _ (inside : at ≤ length source) (sized : Sized bytes) where
     ended_at : at ≡ length (flat_map encode h.records)

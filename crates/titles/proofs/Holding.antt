@@ -1,17 +1,17 @@
 -- Counts kept as the holder of each title.
-use Rattle.std.proofs.Common.{◌≡◌, ℕ, zero, suc, ◌+◌, ◌<◌, ◌≤◌, Bool, true, false, not, cond, ltb, List, length, get_or, set, take, replicate, Some, None, Ok, Err, Option, sym, refl, ap, ◌∙◌, ⊎_elim, arith}
+use Rattle.std.proofs.Common.{◌≡◌, ℕ, zero, suc, ◌+◌, ◌<◌, ◌≤◌, Bool, true, false, not, cond, ltb, List, length, get_or, set, take, replicate, Some, None, Ok, Err, Option, sym, refl, ap, ◌∙◌, ◌-◌, ⊎_elim, arith, eqb}
 use Rattle.std.specs.List.{list_any}
 use Rattle.ledgers.specs.Calls.{Answer, Settles, refuse, deposit_verdict, deposited, release_verdict, released}
 use Rattle.ledgers.specs.Stocks.{IsEmpty, is_party, is_account, content, title_rules}
 use Rattle.ledgers.specs.declared.refusals.Refusal.TheVariants.{OutOfRange, AccountTaken, TooLittle, AccountEmpty}
 use Rattle.std.proofs.lemmas.List.{get_or_past, take_all}
 use Rattle.std.proofs.lemmas.List.Folds.{list_any_more}
-use Rattle.std.proofs.lemmas.Bool.{cases_lt}
+use Rattle.std.proofs.lemmas.Bool.{cases_lt, and_from, cond_both, cond-false, cond-true, eq-eqb, eqb-true, lt-ltb, ne_eqb, not_from_true}
 use Rattle.std.proofs.lemmas.Bool.Decides.{nat_tests}
 use Rattle.std.proofs.lemmas.Grind.{common_steps}
 use Rattle.swap.specs.Assets.{title_asset}
 use Rattle.swap.specs.Below.{sum_below}
-use Rattle.swap.specs.Limits.{titles}
+use Rattle.swap.specs.Limits.{titles, max_legs, max_parties}
 use Rattle.swap.specs.declared.records.Holder.{Holder}
 use Rattle.swap.specs.declared.records.Holder.TheVariants.{Party, Escrow}
 use Rattle.titles.specs.Counts.{held}
@@ -69,6 +69,18 @@ deposit_counts : (ts : List (Option Holder)) (party account title : ℕ) → tit
     → (h : Holder) (u : ℕ) → held (set ts title (Some (Escrow account))) h u ≡ deposited title_rules party account title (held ts) h u
 deposit_counts ts party account title lt is (Party q) u = grind (arith, nat_tests, common_steps)
 deposit_counts ts party account title lt is (Escrow q) u = grind (arith, nat_tests, common_steps)
+
+-- a deposit leaves the counts of every other title
+keep_count : (f : Holder → ℕ → ℕ) (party account asset : ℕ) (h : Holder) (u : ℕ) → (u ≡ asset → ⊥)
+    → f h u ≡ deposited title_rules party account asset f h u
+keep_count f p a x (Party q) u ne =
+    let none : ◌≡◌ {A = ℕ} (cond (eqb u x) 1 0) 0 = cond-false (eqb u x) 1 0 (ne_eqb u x ne) in
+    let same_party : f (Party p) u ≡ f (Party p) u - cond (eqb u x) 1 0 = omega arith in
+    cond_both (eqb q p) _ _ (λ y. f (Party q) u ≡ y) (λ e. ap (λ r. f (Party r) u) (eqb-true q p e) ∙ same_party) (λ _. refl)
+keep_count f p a x (Escrow b) u ne =
+    let none : ◌≡◌ {A = ℕ} (cond (eqb u x) 1 0) 0 = cond-false (eqb u x) 1 0 (ne_eqb u x ne) in
+    let same_account : f (Escrow a) u ≡ f (Escrow a) u + cond (eqb u x) 1 0 = omega arith in
+    cond_both (eqb b a) _ _ (λ y. f (Escrow b) u ≡ y) (λ e. ap (λ r. f (Escrow r) u) (eqb-true b a e) ∙ same_account) (λ _. refl)
 
 release_counts : (t : Option Holder) (account party : ℕ) (h : Holder)
     → cond (held_by (handed t (Escrow account) (Party party)) h) 1 0 ≡ released account party (λ g _. cond (held_by t g) 1 0) h 0
@@ -141,3 +153,51 @@ module _ (ts : List (Option Holder)) (full : length ts ≡ titles) where
           told = sym (release_told ∙ rw (← some));
           counts = λ h u. ap (λ (t : Option Holder). cond (held_by t h) 1 0) (gave u) ∙ release_counts (get_or ts u None) account party h;
         }
+
+-- ---- the calls, for any list of holders, by what the account holds
+module _ (ts : List (Option Holder)) (party account : ℕ) (p : party < max_parties) (a : account < max_legs) where
+  module _ (asset : ℕ) (x : asset < titles) where
+    deposit_told_by_content : deposit_verdict title_rules party account asset (held ts)
+        ≡ refuse (ltb 0 (content title_rules (held ts) account)) AccountTaken (refuse (ltb (held ts (Party party) asset) 1) TooLittle (Ok tt))
+    deposit_told_by_content =
+        cond-false _ _ _ (not_from_true _ (and_from _ _ (and_from _ _ (lt-ltb party max_parties p) (lt-ltb account max_legs a)) (lt-ltb asset titles x)))
+
+    pub deposit_taken_by_content : 0 < content title_rules (held ts) account
+        → Settles (deposit_verdict title_rules party account asset) (deposited title_rules party account asset) (held ts) (Err AccountTaken) (held ts)
+    deposit_taken_by_content some = record { told = sym (deposit_told_by_content ∙ cond-true _ _ _ (lt-ltb _ _ some)); counts = λ h u. refl }
+
+    free_told : content title_rules (held ts) account ≡ 0
+        → deposit_verdict title_rules party account asset (held ts) ≡ refuse (ltb (held ts (Party party) asset) 1) TooLittle (Ok tt)
+    free_told none = deposit_told_by_content ∙ cond-false _ _ _ (ap (ltb 0) none)
+
+    pub deposit_little_by_content : content title_rules (held ts) account ≡ 0 → held_by (get_or ts asset None) (Party party) ≡ false
+        → Settles (deposit_verdict title_rules party account asset) (deposited title_rules party account asset) (held ts) (Err TooLittle) (held ts)
+    deposit_little_by_content none lacks =
+        record { told = sym (free_told none ∙ cond-true _ _ _ (ap (λ (b : Bool). ltb (cond b 1 0) 1) lacks)); counts = λ h u. refl }
+
+    pub deposit_done_by_content : asset < length ts → content title_rules (held ts) account ≡ 0 → held_by (get_or ts asset None) (Party party) ≡ true
+        → Settles (deposit_verdict title_rules party account asset) (deposited title_rules party account asset) (held ts) (Ok tt) (held (set ts asset (Some (Escrow account))))
+    deposit_done_by_content lt none has =
+        record {
+          told = sym (free_told none ∙ cond-false _ _ _ (ap (λ (b : Bool). ltb (cond b 1 0) 1) has));
+          counts = deposit_counts ts party account asset lt (held_is (get_or ts asset None) (Party party) has);
+        }
+
+  release_told_by_content : release_verdict title_rules account party (held ts) ≡ refuse (eqb (content title_rules (held ts) account) 0) AccountEmpty (Ok tt)
+  release_told_by_content = cond-false _ _ _ (not_from_true _ (and_from _ _ (lt-ltb account max_legs a) (lt-ltb party max_parties p)))
+
+  pub release_empty_by_content : content title_rules (held ts) account ≡ 0
+      → Settles (release_verdict title_rules account party) (released account party) (held ts) (Err AccountEmpty) (held ts)
+  release_empty_by_content none = record { told = sym (release_told_by_content ∙ cond-true _ _ _ (eq-eqb _ 0 none)); counts = λ h u. refl }
+
+  pub release_done_by_content : (ys : List (Option Holder)) → 0 < content title_rules (held ts) account
+      → ((k : ℕ) → get_or ys k None ≡ handed (get_or ts k None) (Escrow account) (Party party))
+      → Settles (release_verdict title_rules account party) (released account party) (held ts) (Ok tt) (held ys)
+  release_done_by_content ys some gave =
+      record {
+        told = sym (release_told_by_content ∙ cond-false _ _ _ (ne_eqb _ 0 (above (content title_rules (held ts) account) some)));
+        counts = λ h u. ap (λ (t : Option Holder). cond (held_by t h) 1 0) (gave u) ∙ release_counts (get_or ts u None) account party h;
+      }
+    where
+      above : (n : ℕ) → 0 < n → n ≡ 0 → ⊥
+      above n lt e = omega arith

@@ -21,12 +21,13 @@ fn show_answer(rt: &HostRuntime, call: &str, answer: Result<(), Refusal>) -> io:
 fn show_balance<K: Kind, B: Ledgers<K>>(
     rt: &HostRuntime,
     book: &B,
+    before: &str,
     holder: Holder,
     unit: u32,
 ) -> io::Result<()> {
     match book.balance(LEDGER, holder, unit) {
-        Ok(count) => println!(rt; "{holder} has {count}"),
-        Err(refusal) => println!(rt; "{holder}: refused: {refusal}"),
+        Ok(count) => println!(rt; "{before}{holder} has {count}"),
+        Err(refusal) => println!(rt; "{before}{holder}: refused: {refusal}"),
     }
 }
 
@@ -57,17 +58,16 @@ fn show<K: Kind, B: Ledgers<K>>(
     show_answer(rt, "deposit by party 3 into account 6", answer)?;
     let answer = book.deposit(LEDGER, 1, 5, asset);
     show_answer(rt, "deposit by party 1 into account 5", answer)?;
-    show_balance::<K, B>(rt, book, Holder::Escrow(5), unit)?;
+    show_balance::<K, B>(rt, book, "", Holder::Escrow(5), unit)?;
     let answer = book.release(LEDGER, 6, 2);
     show_answer(rt, "release of account 6 to party 2", answer)?;
     let answer = book.release(LEDGER, 5, 2);
     show_answer(rt, "release of account 5 to party 2", answer)?;
-    show_balance::<K, B>(rt, book, Holder::Party(1), unit)?;
-    show_balance::<K, B>(rt, book, Holder::Party(2), unit)?;
-    show_balance::<K, B>(rt, book, Holder::Escrow(24), unit)?;
+    show_balance::<K, B>(rt, book, "", Holder::Party(1), unit)?;
+    show_balance::<K, B>(rt, book, "", Holder::Party(2), unit)?;
+    show_balance::<K, B>(rt, book, "", Holder::Escrow(24), unit)?;
     book.clear();
-    print!(rt; "after clear ")?;
-    show_balance::<K, B>(rt, book, Holder::Party(2), unit)
+    show_balance::<K, B>(rt, book, "after clear ", Holder::Party(2), unit)
 }
 
 pub(crate) fn show_books(rt: &HostRuntime) -> io::Result<()> {

@@ -28,7 +28,9 @@ impl TitleLedger {
     fn is_taken(&self, account: u8) -> bool
         ensures { result ≡ list_any (λ title. held_by title (Escrow account)) self.now.holders }
     {
-        self.holders.contains(&Some(Holder::Escrow(account)))
+        self.holders
+            .iter()
+            .any(|title| *title == Some(Holder::Escrow(account)))
     }
 }
 
